@@ -1,0 +1,25 @@
+//! The outside of the program: where texts come from, and where output goes.
+#![tactic(auto)]
+
+mod bytes;
+mod count;
+mod files;
+mod mem_shelf;
+mod mem_sink;
+mod name;
+mod shelf;
+mod sink;
+mod sure_shelf;
+mod sure_sink;
+
+pub use bytes::Bytes;
+pub use mem_shelf::MemShelf;
+pub use mem_sink::MemSink;
+pub use name::Name;
+pub use shelf::{FetchError, Shelf};
+pub use sink::{PutError, Sink};
+pub use sure_shelf::SureShelf;
+pub use sure_sink::SureSink;
+
+#[cfg(test)]
+mod tests;

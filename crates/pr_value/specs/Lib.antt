@@ -1,0 +1,4 @@
+pub mod Capped
+pub mod Placed
+pub mod Symbols
+pub mod Trees

@@ -1,0 +1,10 @@
+/// The types of properties. A cost is a number.
+#[derive(Clone, Copy, PartialEq, Eq, Debug)]
+pub enum Kind {
+    Num,
+    Truth,
+    Symbol,
+    Set,
+    List,
+    Cost,
+}

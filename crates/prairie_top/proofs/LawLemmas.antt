@@ -1,0 +1,226 @@
+-- The causes of answers exclude each other.
+use Rattle.std.proofs.Common.{◌≡◌, ℕ, ◌<◌, ◌≤◌, true, false, List, [], ◌∷◌, length, map, Option, Some, None, refl, ap, sym, ◌∙◌, subst, arith, inl, inr}
+use Rattle.std.specs.Prelude.{◌⊎◌, codes}
+use Rattle.pr_outside.specs.Counts.{last_count, Still}
+use Rattle.pr_outside.specs.Files.{Files, held_under, MayFail}
+use Rattle.pr_value.specs.declared.token.Token.{Token}
+use Rattle.rule_lex.specs.Laws.{OneList}
+use Rattle.prairie_top.specs.declared.rules.Rules.{Rules}
+use Rattle.prairie_top.specs.declared.stage.Refusal.{Refusal}
+use Rattle.prairie_top.specs.declared.stage.Refusal.TheVariants.{TooLong, Unbuilt}
+use Rattle.prairie_top.specs.declared.status.Status.{Status}
+use Rattle.prairie_top.specs.declared.status.Status.TheVariants as status
+use Rattle.prairie_top.specs.Grammar.{Text, tokens_of, query_tokens}
+use Rattle.prairie_top.specs.Form.{operator_names}
+use Rattle.prairie_top.specs.Queries.{Query}
+use Rattle.prairie_top.specs.Plans.{Plan, Best, NoPlan}
+use Rattle.prairie_top.specs.PlanText.{plan_text}
+use Rattle.prairie_top.specs.Reading.{HasTokens, ReadsRules, ReadsCatalog, ReadsQuery}
+use Rattle.prairie_top.specs.Run.{Fetches, Puts, Names, ArePlanWords, Told}
+use Rattle.prairie_top.specs.Outcome.{Within, IsRefused, HasRules, HasQuery, text_limit, catalog_limit, HoldsRules, HoldsCatalog, HoldsQuery, AreRead, RefusedComes, rules_refused, catalog_refused, query_refused, ReadFaultComes, rules_failed, catalog_failed, query_failed, PlanComes, Comes, PutsAll, PutsOnce}
+use Rattle.prairie_top.specs.Laws.{OneAnswer, EndsPlanned, Complete, IsHeld, NeverFails}
+use Rattle.prairie_top.specs.Parsing.{accepted_at, whole_query_at}
+use Rattle.prairie_top.proofs.ReadingRules.{accepted_again}
+use Rattle.prairie_top.proofs.ReadingQueries.{whole_again}
+
+some_is : {A : Type 0} (x y : A) → Some x ≡ Some y → x ≡ y
+some_is x y e = cc
+
+-- ---- texts read in one way
+
+module _ (lists : OneList) where
+  one_text : (bytes : List ℕ) (ts us : Text) → HasTokens bytes ts → HasTokens bytes us → ts ≡ us
+  one_text bytes ts us (p, lexes, is) (p', lexes', is') = sym is ∙ (ap (map (λ (x : Token × ℕ). x.0)) (lists bytes p p' lexes lexes') ∙ is')
+
+  one_rules : (bytes : List ℕ) (r s : Rules) → ReadsRules r bytes → ReadsRules s bytes → r ≡ s
+  one_rules bytes r s h h' = some_is r s (sym (accepted_again r h.0) ∙ (ap accepted_at (one_text bytes (tokens_of r) (tokens_of s) h.1 h'.1) ∙ accepted_again s h'.0))
+
+  one_query : (bytes : List ℕ) (r : Rules) (q p : Query) → ReadsQuery r q bytes → ReadsQuery r p bytes → q ≡ p
+  one_query bytes r q p h h' =
+      some_is q p (sym (whole_again (operator_names r) q h.0.fitting h.0.few) ∙ (ap (whole_query_at (operator_names r)) (one_text bytes (query_tokens q) (query_tokens p) h.1 h'.1) ∙ whole_again (operator_names r) p h'.0.fitting h'.0.few))
+
+-- ---- what is told under one name
+
+told_both : (held : Option Files) (files : Files) (name : List ℕ) (P Q : List ℕ → Type 0) → held ≡ Some files → Told held name P → Told held name Q → (bytes : List ℕ) × P bytes × Q bytes
+told_both None files name P Q e p q = absurd (cc e)
+told_both (Some all) files name P Q e (b, at, p) (c, at', q) = (b, p, subst Q (some_is c b (sym at' ∙ at)) q)
+
+-- bytes that are of the form are not refused
+not_refused : (limit : ℕ) (HasForm : List ℕ → Type 0) (refusal : Refusal) (bytes : List ℕ) → length bytes ≤ limit → HasForm bytes → IsRefused limit HasForm refusal bytes → ⊥
+not_refused limit HasForm TooLong bytes few is long = omega (arith, few, long)
+not_refused limit HasForm Unbuilt bytes few is none = none.1 is
+
+same_names : (words : List (List ℕ)) (n m : Names) → ArePlanWords words n → ArePlanWords words m → n ≡ m
+same_names words n m a b =
+    let e : codes "plan" ∷ n.rules ∷ n.catalog ∷ n.query ∷ [] ≡ codes "plan" ∷ m.rules ∷ m.catalog ∷ m.query ∷ [] = sym a.listed ∙ b.listed in
+    let rules : n.rules ≡ m.rules = cc e in
+    let catalog : n.catalog ≡ m.catalog = cc e in
+    let query : n.query ≡ m.query = cc e in
+    λ i. record { rules = rules i; catalog = catalog i; query = query i }
+
+module _ (lists : OneList) (names : Names) (fetches : Fetches) (files : Files) (told : fetches.held ≡ Some files) where
+  rules_same : (r s : Rules) → HoldsRules names fetches r → HoldsRules names fetches s → r ≡ s
+  rules_same r s h h' = let b = told_both fetches.held files names.rules (Within text_limit (ReadsRules r)) (Within text_limit (ReadsRules s)) told h h' in one_rules lists b.0 r s (b.1).1 (b.2).1
+
+  query_same : (r : Rules) (q p : Query) → HoldsQuery names fetches r q → HoldsQuery names fetches r p → q ≡ p
+  query_same r q p h h' = let b = told_both fetches.held files names.query (Within text_limit (ReadsQuery r q)) (Within text_limit (ReadsQuery r p)) told h h' in one_query lists b.0 r q p (b.1).1 (b.2).1
+
+  -- texts that are read are not refused
+  read_not_refused : (r : Rules) (q : Query) (text : List ℕ) → HoldsRules names fetches r → HoldsCatalog names fetches → HoldsQuery names fetches r q → RefusedComes names fetches text → ⊥
+  read_not_refused r q text rules catalog query (rules_refused refusal why all is) =
+      let b = told_both fetches.held files names.rules (Within text_limit (ReadsRules r)) (IsRefused text_limit HasRules refusal) told rules why in not_refused text_limit HasRules refusal b.0 (b.1).0 (r, (b.1).1) b.2
+  read_not_refused r q text rules catalog query (catalog_refused refusal s held why all is) =
+      let b = told_both fetches.held files names.catalog (Within catalog_limit ReadsCatalog) (IsRefused catalog_limit ReadsCatalog refusal) told catalog why in not_refused catalog_limit ReadsCatalog refusal b.0 (b.1).0 (b.1).1 b.2
+  read_not_refused r q text rules catalog query (query_refused refusal s held held' why all is) =
+      let same = rules_same s r held rules in
+      let why' = subst (λ (x : Rules). Told fetches.held names.query (IsRefused text_limit (HasQuery x) refusal)) same why in
+      let b = told_both fetches.held files names.query (Within text_limit (ReadsQuery r q)) (IsRefused text_limit (HasQuery r) refusal) told query why' in not_refused text_limit (HasQuery r) refusal b.0 (b.1).0 (q, (b.1).1) b.2
+
+  -- the best plan and the lack of one
+  not_both : (r s : Rules) (q p : Query) (plan : Plan) → AreRead names fetches r q → AreRead names fetches s p → Best r.irules q plan → NoPlan s.irules p → ⊥
+  not_both r s q p plan one other best none =
+      let same = rules_same s r other.rules one.rules in
+      let query = subst (λ (x : Rules). HoldsQuery names fetches x p) same other.query in
+      let none' = subst (λ (x : Query). NoPlan r.irules x) (query_same r p q query one.query) (subst (λ (x : Rules). NoPlan x.irules p) same none) in
+      none' plan best.0
+
+  -- no fetch failed where the count is as before
+  fetched_not_failed : (text : List ℕ) → fetches.before < last_count → fetches.after ≡ fetches.before → ReadFaultComes names fetches text → ⊥
+  fetched_not_failed text below all (rules_failed fails is) = let rose = fails.0 in omega (arith, below, all, rose)
+  fetched_not_failed text below all (catalog_failed r held fails is) = let rose = fails.0 in omega (arith, below, all, rose)
+  fetched_not_failed text below all (query_failed r held held' fails is) = let rose = fails.0 in omega (arith, below, all, rose)
+
+  refused_fetched : (text : List ℕ) → RefusedComes names fetches text → fetches.after ≡ fetches.before
+  refused_fetched text (rules_refused refusal why all is) = all
+  refused_fetched text (catalog_refused refusal s held why all is) = all
+  refused_fetched text (query_refused refusal s held held' why all is) = all
+
+  -- two answers to `plan` are one
+  plan_answers : (one other : Status) (x y : List ℕ) → fetches.before < last_count → PlanComes names fetches one x → PlanComes names fetches other y → one ≡ other
+  plan_answers status.Done status.Done x y below h k = refl
+  plan_answers status.Done status.Refused x y below h k = absurd (read_not_refused h.rules h.query y h.read.rules h.read.catalog h.read.query k)
+  plan_answers status.Done status.NoPlan x y below h k = absurd (not_both h.rules k.rules h.query k.query h.plan h.read k.read h.best k.none)
+  plan_answers status.Done status.ReadFault x y below h k = absurd (fetched_not_failed y below h.read.fetched k)
+  plan_answers status.Refused status.Done x y below h k = absurd (read_not_refused k.rules k.query x k.read.rules k.read.catalog k.read.query h)
+  plan_answers status.Refused status.Refused x y below h k = refl
+  plan_answers status.Refused status.NoPlan x y below h k = absurd (read_not_refused k.rules k.query x k.read.rules k.read.catalog k.read.query h)
+  plan_answers status.Refused status.ReadFault x y below h k = absurd (fetched_not_failed y below (refused_fetched x h) k)
+  plan_answers status.NoPlan status.Done x y below h k = absurd (not_both k.rules h.rules k.query h.query k.plan k.read h.read k.best h.none)
+  plan_answers status.NoPlan status.Refused x y below h k = absurd (read_not_refused h.rules h.query y h.read.rules h.read.catalog h.read.query k)
+  plan_answers status.NoPlan status.NoPlan x y below h k = refl
+  plan_answers status.NoPlan status.ReadFault x y below h k = absurd (fetched_not_failed y below h.read.fetched k)
+  plan_answers status.ReadFault status.Done x y below h k = absurd (fetched_not_failed x below k.read.fetched h)
+  plan_answers status.ReadFault status.Refused x y below h k = absurd (fetched_not_failed x below (refused_fetched y k) h)
+  plan_answers status.ReadFault status.NoPlan x y below h k = absurd (fetched_not_failed x below k.read.fetched h)
+  plan_answers status.ReadFault status.ReadFault x y below h k = refl
+  plan_answers status.Usage other x y below h k = absurd h
+  plan_answers status.Limit other x y below h k = absurd h
+  plan_answers status.Disagree other x y below h k = absurd h
+  plan_answers status.Loop other x y below h k = absurd h
+  plan_answers status.WriteFault other x y below h k = absurd h
+  plan_answers status.Memory other x y below h k = absurd h
+  plan_answers status.CertRefused other x y below h k = absurd h
+  plan_answers one status.Usage x y below h k = absurd k
+  plan_answers one status.Limit x y below h k = absurd k
+  plan_answers one status.Disagree x y below h k = absurd k
+  plan_answers one status.Loop x y below h k = absurd k
+  plan_answers one status.WriteFault x y below h k = absurd k
+  plan_answers one status.Memory x y below h k = absurd k
+  plan_answers one status.CertRefused x y below h k = absurd k
+
+-- what a run comes to: usage, want of memory, or an answer to `plan`
+abbrev IsOf : List (List ℕ) → Fetches → Status → List ℕ → Type 0
+IsOf words fetches came text =
+    ((came ≡ status.Usage) × ((names : Names) → ArePlanWords words names → ⊥)) ⊎ ((came ≡ status.Memory) ⊎ ((names : Names) × ArePlanWords words names × PlanComes names fetches came text))
+
+kinds : (words : List (List ℕ)) (fetches : Fetches) (came : Status) (text : List ℕ) → Comes words fetches came text → IsOf words fetches came text
+kinds words fetches status.Usage text h = inl (refl, h.unknown)
+kinds words fetches status.Memory text h = inr (inl refl)
+kinds words fetches status.Done text h = inr (inr h)
+kinds words fetches status.Refused text h = inr (inr h)
+kinds words fetches status.NoPlan text h = inr (inr h)
+kinds words fetches status.ReadFault text h = inr (inr h)
+kinds words fetches status.Limit text h = inr (inr h)
+kinds words fetches status.Disagree text h = inr (inr h)
+kinds words fetches status.Loop text h = inr (inr h)
+kinds words fetches status.WriteFault text h = inr (inr h)
+kinds words fetches status.CertRefused text h = inr (inr h)
+
+pub one_answer : OneList → OneAnswer
+one_answer lists words fetches files one other x y told below h k = elim (kinds words fetches one x h) [
+  | inl (is, none) ↦ elim (kinds words fetches other y k) [
+    | inl (is', none') ↦ inl (is ∙ sym is')
+    | inr (inl memory) ↦ inr (inr memory)
+    | inr (inr (m, are', comes')) ↦ absurd (none m are')
+  ]
+  | inr (inl memory) ↦ inr (inl memory)
+  | inr (inr (n, are, comes)) ↦ elim (kinds words fetches other y k) [
+    | inl (is', none') ↦ absurd (none' n are)
+    | inr (inl memory) ↦ inr (inr memory)
+    | inr (inr (m, are', comes')) ↦ inl (plan_answers lists n fetches files told one other x y below comes (subst (λ (w : Names). PlanComes w fetches other y) (same_names words m n are' are) comes'))
+  ]
+]
+
+-- ---- no fault without a cause
+
+sure_holds : (held : Option Files) (sure : _) (files : Files) (name : List ℕ) (limit : ℕ) → held ≡ Some files → sure ≡ true → IsHeld files name → MayFail held sure name limit → ⊥
+sure_holds None sure files name limit told is (bytes, at) may = cc told
+sure_holds (Some all) sure files name limit told is (bytes, at) may =
+    let unsure : sure ≡ false = (may bytes (ap (λ fs. held_under fs name) (some_is all files told) ∙ at)).1 in
+    let clash : true ≡ false = sym is ∙ unsure in
+    cc clash
+
+pub never_fails : NeverFails
+never_fails names fetches files text told is rules catalog query (rules_failed fails e) = sure_holds fetches.held fetches.sure files names.rules text_limit told is rules fails.1
+never_fails names fetches files text told is rules catalog query (catalog_failed r held fails e) = sure_holds fetches.held fetches.sure files names.catalog catalog_limit told is catalog fails.1
+never_fails names fetches files text told is rules catalog query (query_failed r held held' fails e) = sure_holds fetches.held fetches.sure files names.query text_limit told is query fails.1
+
+-- ---- what a run ends with where nothing fails
+
+put_whole : (puts : Puts) (came : Status) (text : List ℕ) (ended : Status) → Still puts.before puts.after → PutsOnce puts came text ended → (ended ≡ status.Memory) ⊎ ((ended ≡ came) × PutsAll puts text)
+put_whole puts came text status.WriteFault still h = let rose = h.0 in absurd (omega (arith, still.0, still.1, rose))
+put_whole puts came text status.Memory still h = inl refl
+put_whole puts came text status.Done still h = inr h
+put_whole puts came text status.Usage still h = inr h
+put_whole puts came text status.Refused still h = inr h
+put_whole puts came text status.NoPlan still h = inr h
+put_whole puts came text status.Limit still h = inr h
+put_whole puts came text status.Disagree still h = inr h
+put_whole puts came text status.Loop still h = inr h
+put_whole puts came text status.ReadFault still h = inr h
+put_whole puts came text status.CertRefused still h = inr h
+
+module _ (lists : OneList) (names : Names) (fetches : Fetches) (files : Files) (told : fetches.held ≡ Some files) (r : Rules) (q : Query) where
+  module _ (rules : HoldsRules names fetches r) (catalog : HoldsCatalog names fetches) (query : HoldsQuery names fetches r q) (still : Still fetches.before fetches.after) (puts : Puts) where
+    planned : (came : Status) (text : List ℕ) (ended : Status) → PlanComes names fetches came text → (ended ≡ came) × PutsAll puts text → EndsPlanned r q puts ended
+    planned status.Done text ended h (e, all) =
+        let same = rules_same lists names fetches files told h.rules r h.read.rules rules in
+        let query' = subst (λ (x : Rules). HoldsQuery names fetches x h.query) same h.read.query in
+        let best = subst (λ (x : Query). Best r.irules x h.plan) (query_same lists names fetches files told r h.query q query' query) (subst (λ (x : Rules). Best x.irules h.query h.plan) same h.best) in
+        inl (e, (h.plan, best, subst (λ (x : List ℕ). PutsAll puts x) (h.is ∙ ap (λ (x : Rules). plan_text x.irules h.plan) same) all))
+    planned status.NoPlan text ended h (e, all) =
+        let same = rules_same lists names fetches files told h.rules r h.read.rules rules in
+        let query' = subst (λ (x : Rules). HoldsQuery names fetches x h.query) same h.read.query in
+        let none = subst (λ (x : Query). NoPlan r.irules x) (query_same lists names fetches files told r h.query q query' query) (subst (λ (x : Rules). NoPlan x.irules h.query) same h.none) in
+        inr (inl (e, none, subst (λ (x : List ℕ). PutsAll puts x) h.is all))
+    planned status.Refused text ended h p = absurd (read_not_refused lists names fetches files told r q text rules catalog query h)
+    planned status.ReadFault text ended h p = absurd (fetched_not_failed lists names fetches files told text (subst (λ n. n < last_count) still.0 still.1) still.0 h)
+    planned status.Usage text ended h p = absurd h
+    planned status.Limit text ended h p = absurd h
+    planned status.Disagree text ended h p = absurd h
+    planned status.Loop text ended h p = absurd h
+    planned status.WriteFault text ended h p = absurd h
+    planned status.Memory text ended h p = absurd h
+    planned status.CertRefused text ended h p = absurd h
+
+pub complete : OneList → Complete
+complete lists words names fetches puts files r q ended told are rules catalog query still whole ends =
+    elim (put_whole puts ends.came ends.text ended whole ends.put) [
+      | inl memory ↦ inr (inr memory)
+      | inr put ↦ elim (kinds words fetches ends.came ends.text ends.comes) [
+        | inl (is, none) ↦ absurd (none names are)
+        | inr (inl memory) ↦ inr (inr (put.0 ∙ memory))
+        | inr (inr (m, are', comes)) ↦
+            planned lists names fetches files told r q rules catalog query still puts ends.came ends.text ended (subst (λ (w : Names). PlanComes w fetches ends.came ends.text) (same_names words m names are' are) comes) put
+      ]
+    ]

@@ -1,0 +1,6 @@
+use Rattle.std.proofs.Common.{take}
+use Rattle.prairie_top.specs.Search.{IsCheapest}
+use Rattle.prairie_top.proofs.search.cheapest.Given as goal
+
+abbrev pub invariant-loop-i : goal.invariant-loop-i
+invariant-loop-i l = IsCheapest (take l.i l.rules) l.op l.costs l.best

@@ -1,0 +1,24 @@
+-- The texts of the answers that are no plan. Each is one line.
+use Rattle.std.specs.Prelude.{List, ◌++◌, codes, ℕ}
+use Rattle.prairie_top.specs.declared.stage.Refusal.{Refusal}
+use Rattle.prairie_top.specs.declared.stage.Refusal.TheVariants.{TooLong, Unbuilt}
+
+abbrev pub refusal_name : Refusal → List ℕ
+refusal_name TooLong = codes "TooLong"
+refusal_name Unbuilt = codes "Unbuilt"
+
+-- a text, and why it is refused
+abbrev pub refusal_text : List ℕ → Refusal → List ℕ
+refusal_text text refusal = codes "refused " ++ text ++ codes " " ++ refusal_name refusal ++ codes "\n"
+
+abbrev pub usage_text : List ℕ
+usage_text = codes "usage: plan RULES CATALOG QUERY, certify RULES CATALOG QUERY, check RULES CATALOG QUERY CERTIFICATE, p2v RULES, trial NUMBER\n"
+
+abbrev pub no_plan_text : List ℕ
+no_plan_text = codes "no plan\n"
+
+abbrev pub memory_text : List ℕ
+memory_text = codes "memory\n"
+
+abbrev pub fault_text : List ℕ → List ℕ
+fault_text name = codes "read fault " ++ name ++ codes "\n"

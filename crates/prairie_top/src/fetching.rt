@@ -1,0 +1,109 @@
+// The three texts, each fetched and read whole.
+ghost use Rattle.std.specs.Prelude.{◌≡◌, codes, List, ℕ, IsTrue, ◌↔◌, IfOk};
+ghost use Rattle.prairie_top.specs.Run.{Fetches};
+ghost use Rattle.prairie_top.specs.Outcome.{HasRules, HasQuery};
+ghost use Rattle.prairie_top.specs.Queries.{seen_query};
+ghost use Rattle.prairie_top.specs.Reading.{ReadsRules, ReadsCatalog, ReadsQuery};
+ghost use Rattle.prairie_top.specs.Stages.{IsFetched, IsStage};
+
+use crate::query::Query;
+use crate::reading::{query_in, rules_in};
+use crate::rules::Rules;
+use crate::stage::{Refusal, Stage};
+use pr_outside::{Bytes, FetchError, Name, Shelf};
+use pr_value::Memory;
+use std::alloc::Global;
+
+/// The most bytes of the rules and of the query.
+pub const TEXT_LIMIT: usize = 1_048_576;
+
+/// The most bytes of the catalog.
+pub const CATALOG_LIMIT: usize = 8_388_608;
+
+fn fetched<F: Shelf>(
+    alloc: Global,
+    shelf: &mut F,
+    name: &Name,
+    limit: usize,
+) -> Result<Stage<Bytes>, Memory>
+    ensures held { F.held shelf.new ≡ F.held shelf.old }
+    ensures sure { F.sure shelf.new ≡ F.sure shelf.old }
+    ensures stage { IfOk result (IsFetched (record { held = F.held shelf.old; sure = F.sure shelf.old; before = F.faults shelf.old; after = F.faults shelf.new }) name.now limit) }
+{
+    match shelf.fetch(alloc, name, limit) {
+        Ok(bytes) => Ok(Stage::Read(bytes)),
+        Err(FetchError::TooLong) => Ok(Stage::Refused(Refusal::TooLong)),
+        Err(FetchError::Failed) => Ok(Stage::Failed),
+        Err(FetchError::Memory) => Err(Memory),
+    }
+}
+
+/// The rules under a name.
+pub fn fetch_rules<F: Shelf>(
+    alloc: Global,
+    shelf: &mut F,
+    name: &Name,
+) -> Result<Stage<Rules>, Memory>
+    ensures held { F.held shelf.new ≡ F.held shelf.old }
+    ensures sure { F.sure shelf.new ≡ F.sure shelf.old }
+    ensures stage { IfOk result (IsStage HasRules ReadsRules (record { held = F.held shelf.old; sure = F.sure shelf.old; before = F.faults shelf.old; after = F.faults shelf.new }) name.now TEXT_LIMIT) }
+{
+    match fetched(alloc, shelf, name, TEXT_LIMIT)? {
+        Stage::Read(bytes) => match rules_in(alloc, bytes.as_slice())? {
+            Some(rules) => Ok(Stage::Read(rules)),
+            None => Ok(Stage::Refused(Refusal::Unbuilt)),
+        },
+        Stage::Refused(refusal) => Ok(Stage::Refused(refusal)),
+        Stage::Failed => Ok(Stage::Failed),
+    }
+}
+
+/// The catalog under a name, which has nothing to read.
+pub fn fetch_catalog<F: Shelf>(
+    alloc: Global,
+    shelf: &mut F,
+    name: &Name,
+) -> Result<Stage<()>, Memory>
+    ensures held { F.held shelf.new ≡ F.held shelf.old }
+    ensures sure { F.sure shelf.new ≡ F.sure shelf.old }
+    ensures stage { IfOk result (IsStage ReadsCatalog (λ _. ReadsCatalog) (record { held = F.held shelf.old; sure = F.sure shelf.old; before = F.faults shelf.old; after = F.faults shelf.new }) name.now CATALOG_LIMIT) }
+{
+    match fetched(alloc, shelf, name, CATALOG_LIMIT)? {
+        Stage::Read(bytes) => {
+            if is_catalog(bytes.as_slice()) {
+                Ok(Stage::Read(()))
+            } else {
+                Ok(Stage::Refused(Refusal::Unbuilt))
+            }
+        }
+        Stage::Refused(refusal) => Ok(Stage::Refused(refusal)),
+        Stage::Failed => Ok(Stage::Failed),
+    }
+}
+
+fn is_catalog(bytes: &[u8]) -> bool
+    ensures { IsTrue result ↔ ReadsCatalog bytes.now }
+{
+    bytes == b"{}".as_slice()
+}
+
+/// The query under a name, over the rules.
+pub fn fetch_query<F: Shelf>(
+    alloc: Global,
+    rules: &Rules,
+    shelf: &mut F,
+    name: &Name,
+) -> Result<Stage<Query>, Memory>
+    ensures held { F.held shelf.new ≡ F.held shelf.old }
+    ensures sure { F.sure shelf.new ≡ F.sure shelf.old }
+    ensures stage { IfOk result (IsStage (HasQuery rules.now) (λ q. ReadsQuery rules.now (seen_query q)) (record { held = F.held shelf.old; sure = F.sure shelf.old; before = F.faults shelf.old; after = F.faults shelf.new }) name.now TEXT_LIMIT) }
+{
+    match fetched(alloc, shelf, name, TEXT_LIMIT)? {
+        Stage::Read(bytes) => match query_in(alloc, rules, bytes.as_slice())? {
+            Some(query) => Ok(Stage::Read(query)),
+            None => Ok(Stage::Refused(Refusal::Unbuilt)),
+        },
+        Stage::Refused(refusal) => Ok(Stage::Refused(refusal)),
+        Stage::Failed => Ok(Stage::Failed),
+    }
+}

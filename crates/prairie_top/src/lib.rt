@@ -1,0 +1,24 @@
+//! The top call: from words to an answer.
+#![tactic(auto)]
+
+mod fetching;
+mod laws;
+mod messages;
+mod names;
+mod plan;
+mod plan_text;
+mod query;
+mod reading;
+mod rules;
+mod search;
+mod stage;
+mod status;
+mod top;
+mod words;
+
+pub use laws::outcome_laws;
+pub use status::Status;
+pub use top::run;
+
+#[cfg(test)]
+mod tests;

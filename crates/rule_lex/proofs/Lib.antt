@@ -1,0 +1,6 @@
+pub mod ClassLaws
+pub mod LexemeLaws
+pub mod LexesLaws
+pub mod NumberLaws
+pub mod RunLaws
+pub mod StepLaws
