@@ -4,40 +4,45 @@ use Rattle.std.specs.Prelude.{◌⊎◌, codes}
 use Rattle.pr_outside.specs.Counts.{last_count, Still}
 use Rattle.pr_outside.specs.Files.{Files, held_under, MayFail}
 use Rattle.pr_value.specs.declared.token.Token.{Token}
-use Rattle.rule_lex.specs.Laws.{OneList}
-use Rattle.prairie_top.specs.declared.rules.Rules.{Rules}
+use Rattle.rule_lex.specs.Laws.{OneList, NeverBoth}
+use Rattle.rule_lex.specs.declared.error.LexError.TheVariants as lex
+use Rattle.rule_syntax.specs.Syntax.{Rules, Query}
+use Rattle.rule_syntax.specs.Tokens.{Text}
+use Rattle.rule_syntax.specs.DistinctRules.{DistinctRules}
+use Rattle.rule_syntax.specs.DistinctQueries.{DistinctQueries}
 use Rattle.prairie_top.specs.declared.stage.Refusal.{Refusal}
-use Rattle.prairie_top.specs.declared.stage.Refusal.TheVariants.{TooLong, Unbuilt}
+use Rattle.prairie_top.specs.declared.stage.Refusal.TheVariants.{TooLong, BadByte, NumberTooBig, NameTooLong, BadSyntax, TooDeep, Unbuilt}
 use Rattle.prairie_top.specs.declared.status.Status.{Status}
 use Rattle.prairie_top.specs.declared.status.Status.TheVariants as status
-use Rattle.prairie_top.specs.Grammar.{Text, tokens_of, query_tokens}
-use Rattle.prairie_top.specs.Form.{operator_names}
-use Rattle.prairie_top.specs.Queries.{Query}
 use Rattle.prairie_top.specs.Plans.{Plan, Best, NoPlan}
 use Rattle.prairie_top.specs.PlanText.{plan_text}
-use Rattle.prairie_top.specs.Reading.{HasTokens, ReadsRules, ReadsCatalog, ReadsQuery}
+use Rattle.prairie_top.specs.Reading.{HasTokens, SpellsRules, PlannedRules, ReadsRules, ReadsCatalog, SpellsQuery, PlannedQuery, ReadsQuery}
 use Rattle.prairie_top.specs.Run.{Fetches, Puts, Names, ArePlanWords, Told}
-use Rattle.prairie_top.specs.Outcome.{Within, IsRefused, HasRules, HasQuery, text_limit, catalog_limit, HoldsRules, HoldsCatalog, HoldsQuery, AreRead, RefusedComes, rules_refused, catalog_refused, query_refused, ReadFaultComes, rules_failed, catalog_failed, query_failed, PlanComes, Comes, PutsAll, PutsOnce}
+use Rattle.prairie_top.specs.Outcome.{Within, IsRefused, IsRulesRefused, IsCatalogRefused, IsQueryRefused, text_limit, catalog_limit, HoldsRules, HoldsCatalog, HoldsQuery, AreRead, RefusedComes, rules_refused, catalog_refused, query_refused, ReadFaultComes, rules_failed, catalog_failed, query_failed, PlanComes, Comes, PutsAll, PutsOnce}
 use Rattle.prairie_top.specs.Laws.{OneAnswer, EndsPlanned, Complete, IsHeld, NeverFails}
-use Rattle.prairie_top.specs.Parsing.{accepted_at, whole_query_at}
-use Rattle.prairie_top.proofs.ReadingRules.{accepted_again}
-use Rattle.prairie_top.proofs.ReadingQueries.{whole_again}
+
+-- what the layers below say of texts
+pub record Laws : Type 0 where
+  pub lists : OneList
+  pub never : NeverBoth
+  pub rules : DistinctRules
+  pub queries : DistinctQueries
 
 some_is : {A : Type 0} (x y : A) → Some x ≡ Some y → x ≡ y
 some_is x y e = cc
 
 -- ---- texts read in one way
 
-module _ (lists : OneList) where
-  one_text : (bytes : List ℕ) (ts us : Text) → HasTokens bytes ts → HasTokens bytes us → ts ≡ us
-  one_text bytes ts us (p, lexes, is) (p', lexes', is') = sym is ∙ (ap (map (λ (x : Token × ℕ). x.0)) (lists bytes p p' lexes lexes') ∙ is')
+one_text : OneList → (bytes : List ℕ) (ts us : Text) → HasTokens bytes ts → HasTokens bytes us → ts ≡ us
+one_text lists bytes ts us (p, lexes, is) (p', lexes', is') = sym is ∙ (ap (map (λ (x : Token × ℕ). x.0)) (lists bytes p p' lexes lexes') ∙ is')
 
-  one_rules : (bytes : List ℕ) (r s : Rules) → ReadsRules r bytes → ReadsRules s bytes → r ≡ s
-  one_rules bytes r s h h' = some_is r s (sym (accepted_again r h.0) ∙ (ap accepted_at (one_text bytes (tokens_of r) (tokens_of s) h.1 h'.1) ∙ accepted_again s h'.0))
+one_rules : OneList → DistinctRules → (bytes : List ℕ) (r s : Rules) → ReadsRules r bytes → ReadsRules s bytes → r ≡ s
+one_rules lists law bytes r s (ts, has, planned) (us, has', planned') =
+    law r s planned.0.spelled planned'.0.spelled (sym planned.0.tokens ∙ (one_text lists bytes ts us has has' ∙ planned'.0.tokens))
 
-  one_query : (bytes : List ℕ) (r : Rules) (q p : Query) → ReadsQuery r q bytes → ReadsQuery r p bytes → q ≡ p
-  one_query bytes r q p h h' =
-      some_is q p (sym (whole_again (operator_names r) q h.0.fitting h.0.few) ∙ (ap (whole_query_at (operator_names r)) (one_text bytes (query_tokens q) (query_tokens p) h.1 h'.1) ∙ whole_again (operator_names r) p h'.0.fitting h'.0.few))
+one_query : OneList → DistinctQueries → (bytes : List ℕ) (r : Rules) (q p : Query) → ReadsQuery r q bytes → ReadsQuery r p bytes → q ≡ p
+one_query lists law bytes r q p (ts, has, planned) (us, has', planned') =
+    law q p planned.0.spelled planned'.0.spelled (sym planned.0.tokens ∙ (one_text lists bytes ts us has has' ∙ planned'.0.tokens))
 
 -- ---- what is told under one name
 
@@ -45,10 +50,25 @@ told_both : (held : Option Files) (files : Files) (name : List ℕ) (P Q : List 
 told_both None files name P Q e p q = absurd (cc e)
 told_both (Some all) files name P Q e (b, at, p) (c, at', q) = (b, p, subst Q (some_is c b (sym at' ∙ at)) q)
 
--- bytes that are of the form are not refused
-not_refused : (limit : ℕ) (HasForm : List ℕ → Type 0) (refusal : Refusal) (bytes : List ℕ) → length bytes ≤ limit → HasForm bytes → IsRefused limit HasForm refusal bytes → ⊥
-not_refused limit HasForm TooLong bytes few is long = omega (arith, few, long)
-not_refused limit HasForm Unbuilt bytes few is none = none.1 is
+-- bytes whose tokens are planned are not refused
+not_refused : OneList → NeverBoth → (limit : ℕ) (Spells Planned : Text → Type 0) (refusal : Refusal) (bytes : List ℕ) (ts : Text) → length bytes ≤ limit → HasTokens bytes ts → Spells ts → Planned ts
+    → IsRefused limit Spells Planned refusal bytes → ⊥
+not_refused lists never limit Spells Planned TooLong bytes ts few has spells planned long = omega (arith, few, long)
+not_refused lists never limit Spells Planned (BadByte at) bytes ts few has spells planned why = never bytes has.0 (lex.BadByte at) has.1 why.1
+not_refused lists never limit Spells Planned (NumberTooBig at) bytes ts few has spells planned why = never bytes has.0 (lex.NumberTooBig at) has.1 why.1
+not_refused lists never limit Spells Planned (NameTooLong at) bytes ts few has spells planned why = never bytes has.0 (lex.NameTooLong at) has.1 why.1
+not_refused lists never limit Spells Planned (BadSyntax at) bytes ts few has spells planned (few', (us, has', none)) = none (subst Spells (one_text lists bytes ts us has has') spells)
+not_refused lists never limit Spells Planned (TooDeep at) bytes ts few has spells planned (few', (us, has', none)) = none (subst Spells (one_text lists bytes ts us has has') spells)
+not_refused lists never limit Spells Planned Unbuilt bytes ts few has spells planned (few', (us, has', spells', none)) = none (subst Planned (one_text lists bytes ts us has has') planned)
+
+catalog_not_refused : (refusal : Refusal) (bytes : List ℕ) → length bytes ≤ catalog_limit → ReadsCatalog bytes → IsCatalogRefused refusal bytes → ⊥
+catalog_not_refused TooLong bytes few is long = omega (arith, few, long)
+catalog_not_refused Unbuilt bytes few is why = why.1 is
+catalog_not_refused (BadByte at) bytes few is why = why
+catalog_not_refused (NumberTooBig at) bytes few is why = why
+catalog_not_refused (NameTooLong at) bytes few is why = why
+catalog_not_refused (BadSyntax at) bytes few is why = why
+catalog_not_refused (TooDeep at) bytes few is why = why
 
 same_names : (words : List (List ℕ)) (n m : Names) → ArePlanWords words n → ArePlanWords words m → n ≡ m
 same_names words n m a b =
@@ -58,23 +78,27 @@ same_names words n m a b =
     let query : n.query ≡ m.query = cc e in
     λ i. record { rules = rules i; catalog = catalog i; query = query i }
 
-module _ (lists : OneList) (names : Names) (fetches : Fetches) (files : Files) (told : fetches.held ≡ Some files) where
+module _ (laws : Laws) (names : Names) (fetches : Fetches) (files : Files) (told : fetches.held ≡ Some files) where
   rules_same : (r s : Rules) → HoldsRules names fetches r → HoldsRules names fetches s → r ≡ s
-  rules_same r s h h' = let b = told_both fetches.held files names.rules (Within text_limit (ReadsRules r)) (Within text_limit (ReadsRules s)) told h h' in one_rules lists b.0 r s (b.1).1 (b.2).1
+  rules_same r s h h' = let b = told_both fetches.held files names.rules (Within text_limit (ReadsRules r)) (Within text_limit (ReadsRules s)) told h h' in one_rules laws.lists laws.rules b.0 r s (b.1).1 (b.2).1
 
   query_same : (r : Rules) (q p : Query) → HoldsQuery names fetches r q → HoldsQuery names fetches r p → q ≡ p
-  query_same r q p h h' = let b = told_both fetches.held files names.query (Within text_limit (ReadsQuery r q)) (Within text_limit (ReadsQuery r p)) told h h' in one_query lists b.0 r q p (b.1).1 (b.2).1
+  query_same r q p h h' = let b = told_both fetches.held files names.query (Within text_limit (ReadsQuery r q)) (Within text_limit (ReadsQuery r p)) told h h' in one_query laws.lists laws.queries b.0 r q p (b.1).1 (b.2).1
 
   -- texts that are read are not refused
   read_not_refused : (r : Rules) (q : Query) (text : List ℕ) → HoldsRules names fetches r → HoldsCatalog names fetches → HoldsQuery names fetches r q → RefusedComes names fetches text → ⊥
   read_not_refused r q text rules catalog query (rules_refused refusal why all is) =
-      let b = told_both fetches.held files names.rules (Within text_limit (ReadsRules r)) (IsRefused text_limit HasRules refusal) told rules why in not_refused text_limit HasRules refusal b.0 (b.1).0 (r, (b.1).1) b.2
+      let b = told_both fetches.held files names.rules (Within text_limit (ReadsRules r)) (IsRulesRefused refusal) told rules why in
+      let reads = (b.1).1 in
+      not_refused laws.lists laws.never text_limit SpellsRules (λ ts. (s : Rules) × PlannedRules s ts) refusal b.0 reads.0 (b.1).0 reads.1 (r, reads.2.0) (r, reads.2) b.2
   read_not_refused r q text rules catalog query (catalog_refused refusal s held why all is) =
-      let b = told_both fetches.held files names.catalog (Within catalog_limit ReadsCatalog) (IsRefused catalog_limit ReadsCatalog refusal) told catalog why in not_refused catalog_limit ReadsCatalog refusal b.0 (b.1).0 (b.1).1 b.2
+      let b = told_both fetches.held files names.catalog (Within catalog_limit ReadsCatalog) (IsCatalogRefused refusal) told catalog why in catalog_not_refused refusal b.0 (b.1).0 (b.1).1 b.2
   read_not_refused r q text rules catalog query (query_refused refusal s held held' why all is) =
       let same = rules_same s r held rules in
-      let why' = subst (λ (x : Rules). Told fetches.held names.query (IsRefused text_limit (HasQuery x) refusal)) same why in
-      let b = told_both fetches.held files names.query (Within text_limit (ReadsQuery r q)) (IsRefused text_limit (HasQuery r) refusal) told query why' in not_refused text_limit (HasQuery r) refusal b.0 (b.1).0 (q, (b.1).1) b.2
+      let why' = subst (λ (x : Rules). Told fetches.held names.query (IsQueryRefused x refusal)) same why in
+      let b = told_both fetches.held files names.query (Within text_limit (ReadsQuery r q)) (IsQueryRefused r refusal) told query why' in
+      let reads = (b.1).1 in
+      not_refused laws.lists laws.never text_limit SpellsQuery (λ ts. (p : Query) × PlannedQuery r p ts) refusal b.0 reads.0 (b.1).0 reads.1 (q, reads.2.0) (q, reads.2) b.2
 
   -- the best plan and the lack of one
   not_both : (r s : Rules) (q p : Query) (plan : Plan) → AreRead names fetches r q → AreRead names fetches s p → Best r.irules q plan → NoPlan s.irules p → ⊥
@@ -146,8 +170,8 @@ kinds words fetches status.Loop text h = inr (inr h)
 kinds words fetches status.WriteFault text h = inr (inr h)
 kinds words fetches status.CertRefused text h = inr (inr h)
 
-pub one_answer : OneList → OneAnswer
-one_answer lists words fetches files one other x y told below h k = elim (kinds words fetches one x h) [
+pub one_answer : Laws → OneAnswer
+one_answer laws words fetches files one other x y told below h k = elim (kinds words fetches one x h) [
   | inl (is, none) ↦ elim (kinds words fetches other y k) [
     | inl (is', none') ↦ inl (is ∙ sym is')
     | inr (inl memory) ↦ inr (inr memory)
@@ -157,7 +181,7 @@ one_answer lists words fetches files one other x y told below h k = elim (kinds 
   | inr (inr (n, are, comes)) ↦ elim (kinds words fetches other y k) [
     | inl (is', none') ↦ absurd (none' n are)
     | inr (inl memory) ↦ inr (inr memory)
-    | inr (inr (m, are', comes')) ↦ inl (plan_answers lists n fetches files told one other x y below comes (subst (λ (w : Names). PlanComes w fetches other y) (same_names words m n are' are) comes'))
+    | inr (inr (m, are', comes')) ↦ inl (plan_answers laws n fetches files told one other x y below comes (subst (λ (w : Names). PlanComes w fetches other y) (same_names words m n are' are) comes'))
   ]
 ]
 
@@ -190,21 +214,21 @@ put_whole puts came text status.Loop still h = inr h
 put_whole puts came text status.ReadFault still h = inr h
 put_whole puts came text status.CertRefused still h = inr h
 
-module _ (lists : OneList) (names : Names) (fetches : Fetches) (files : Files) (told : fetches.held ≡ Some files) (r : Rules) (q : Query) where
+module _ (laws : Laws) (names : Names) (fetches : Fetches) (files : Files) (told : fetches.held ≡ Some files) (r : Rules) (q : Query) where
   module _ (rules : HoldsRules names fetches r) (catalog : HoldsCatalog names fetches) (query : HoldsQuery names fetches r q) (still : Still fetches.before fetches.after) (puts : Puts) where
     planned : (came : Status) (text : List ℕ) (ended : Status) → PlanComes names fetches came text → (ended ≡ came) × PutsAll puts text → EndsPlanned r q puts ended
     planned status.Done text ended h (e, all) =
-        let same = rules_same lists names fetches files told h.rules r h.read.rules rules in
+        let same = rules_same laws names fetches files told h.rules r h.read.rules rules in
         let query' = subst (λ (x : Rules). HoldsQuery names fetches x h.query) same h.read.query in
-        let best = subst (λ (x : Query). Best r.irules x h.plan) (query_same lists names fetches files told r h.query q query' query) (subst (λ (x : Rules). Best x.irules h.query h.plan) same h.best) in
+        let best = subst (λ (x : Query). Best r.irules x h.plan) (query_same laws names fetches files told r h.query q query' query) (subst (λ (x : Rules). Best x.irules h.query h.plan) same h.best) in
         inl (e, (h.plan, best, subst (λ (x : List ℕ). PutsAll puts x) (h.is ∙ ap (λ (x : Rules). plan_text x.irules h.plan) same) all))
     planned status.NoPlan text ended h (e, all) =
-        let same = rules_same lists names fetches files told h.rules r h.read.rules rules in
+        let same = rules_same laws names fetches files told h.rules r h.read.rules rules in
         let query' = subst (λ (x : Rules). HoldsQuery names fetches x h.query) same h.read.query in
-        let none = subst (λ (x : Query). NoPlan r.irules x) (query_same lists names fetches files told r h.query q query' query) (subst (λ (x : Rules). NoPlan x.irules h.query) same h.none) in
+        let none = subst (λ (x : Query). NoPlan r.irules x) (query_same laws names fetches files told r h.query q query' query) (subst (λ (x : Rules). NoPlan x.irules h.query) same h.none) in
         inr (inl (e, none, subst (λ (x : List ℕ). PutsAll puts x) h.is all))
-    planned status.Refused text ended h p = absurd (read_not_refused lists names fetches files told r q text rules catalog query h)
-    planned status.ReadFault text ended h p = absurd (fetched_not_failed lists names fetches files told text (subst (λ n. n < last_count) still.0 still.1) still.0 h)
+    planned status.Refused text ended h p = absurd (read_not_refused laws names fetches files told r q text rules catalog query h)
+    planned status.ReadFault text ended h p = absurd (fetched_not_failed laws names fetches files told text (subst (λ n. n < last_count) still.0 still.1) still.0 h)
     planned status.Usage text ended h p = absurd h
     planned status.Limit text ended h p = absurd h
     planned status.Disagree text ended h p = absurd h
@@ -213,14 +237,14 @@ module _ (lists : OneList) (names : Names) (fetches : Fetches) (files : Files) (
     planned status.Memory text ended h p = absurd h
     planned status.CertRefused text ended h p = absurd h
 
-pub complete : OneList → Complete
-complete lists words names fetches puts files r q ended told are rules catalog query still whole ends =
+pub complete : Laws → Complete
+complete laws words names fetches puts files r q ended told are rules catalog query still whole ends =
     elim (put_whole puts ends.came ends.text ended whole ends.put) [
       | inl memory ↦ inr (inr memory)
       | inr put ↦ elim (kinds words fetches ends.came ends.text ends.comes) [
         | inl (is, none) ↦ absurd (none names are)
         | inr (inl memory) ↦ inr (inr (put.0 ∙ memory))
         | inr (inr (m, are', comes)) ↦
-            planned lists names fetches files told r q rules catalog query still puts ends.came ends.text ended (subst (λ (w : Names). PlanComes w fetches ends.came ends.text) (same_names words m names are' are) comes) put
+            planned laws names fetches files told r q rules catalog query still puts ends.came ends.text ended (subst (λ (w : Names). PlanComes w fetches ends.came ends.text) (same_names words m names are' are) comes) put
       ]
     ]

@@ -6,15 +6,15 @@ use Rattle.prairie_top.specs.declared.stage.Stage.TheVariants as stage
 use Rattle.prairie_top.specs.declared.status.Status.{Status}
 use Rattle.prairie_top.specs.declared.status.Status.TheVariants as status
 use Rattle.prairie_top.specs.Run.{Fetches, Names, ArePlanWords, Told}
-use Rattle.prairie_top.specs.Outcome.{IsRefused, PlanComes, Comes}
+use Rattle.prairie_top.specs.Outcome.{PlanComes, Comes}
 use Rattle.prairie_top.specs.Stages.{IsStage, IsFailure}
 
-module _ {X : Type 0} (HasForm : List ℕ → Type 0) (Reads : X → List ℕ → Type 0) (fetches : Fetches) (name : List ℕ) (limit : ℕ) (s : Stage X) where
-  pub stage_refused : (refusal : Refusal) → s ≡ stage.Refused refusal → IsStage HasForm Reads fetches name limit s → (fetches.after ≡ fetches.before) × Told fetches.held name (IsRefused limit HasForm refusal)
-  stage_refused refusal is h = subst (λ (x : Stage X). IsStage HasForm Reads fetches name limit x) is h
+module _ {X : Type 0} (IsRefused : Refusal → List ℕ → Type 0) (Reads : X → List ℕ → Type 0) (fetches : Fetches) (name : List ℕ) (limit : ℕ) (s : Stage X) where
+  pub stage_refused : (refusal : Refusal) → s ≡ stage.Refused refusal → IsStage IsRefused Reads fetches name limit s → (fetches.after ≡ fetches.before) × Told fetches.held name (IsRefused refusal)
+  stage_refused refusal is h = subst (λ (x : Stage X). IsStage IsRefused Reads fetches name limit x) is h
 
-  pub stage_failed : s ≡ stage.Failed → IsStage HasForm Reads fetches name limit s → IsFailure fetches name limit
-  stage_failed is h = subst (λ (x : Stage X). IsStage HasForm Reads fetches name limit x) is h
+  pub stage_failed : s ≡ stage.Failed → IsStage IsRefused Reads fetches name limit s → IsFailure fetches name limit
+  stage_failed is h = subst (λ (x : Stage X). IsStage IsRefused Reads fetches name limit x) is h
 
 -- a list of four
 pub four_items : {A : Type 0} (xs : List A) (a b c d : A) → length xs ≡ 4 → a ≡ get_or xs 0 a → b ≡ get_or xs 1 b → c ≡ get_or xs 2 c → d ≡ get_or xs 3 d → xs ≡ a ∷ b ∷ c ∷ d ∷ []

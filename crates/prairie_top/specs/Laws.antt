@@ -2,10 +2,9 @@
 use Rattle.std.specs.Prelude.{◌≡◌, ℕ, ◌<◌, true, List, Some, ◌⊎◌}
 use Rattle.pr_outside.specs.Counts.{last_count, Still}
 use Rattle.pr_outside.specs.Files.{Files, held_under}
-use Rattle.prairie_top.specs.declared.rules.Rules.{Rules}
+use Rattle.rule_syntax.specs.Syntax.{Rules, Query}
 use Rattle.prairie_top.specs.declared.status.Status.{Status}
 use Rattle.prairie_top.specs.declared.status.Status.TheVariants as status
-use Rattle.prairie_top.specs.Queries.{Query}
 use Rattle.prairie_top.specs.Plans.{Plan, Best, NoPlan}
 use Rattle.prairie_top.specs.PlanText.{plan_text}
 use Rattle.prairie_top.specs.Messages.{no_plan_text}

@@ -1,12 +1,10 @@
+pub mod Conditions
 pub mod Form
-pub mod Grammar
 pub mod Laws
 pub mod Messages
 pub mod Outcome
-pub mod Parsing
 pub mod PlanText
 pub mod Plans
-pub mod Queries
 pub mod Reading
 pub mod Run
 pub mod Search

@@ -1,10 +1,20 @@
 -- The texts of the answers that are no plan. Each is one line.
-use Rattle.std.specs.Prelude.{List, ◌++◌, codes, ℕ}
+use Rattle.std.specs.Prelude.{ℕ, List, ◌++◌, codes}
+use Rattle.std.specs.Fmt.{decimal}
 use Rattle.prairie_top.specs.declared.stage.Refusal.{Refusal}
-use Rattle.prairie_top.specs.declared.stage.Refusal.TheVariants.{TooLong, Unbuilt}
+use Rattle.prairie_top.specs.declared.stage.Refusal.TheVariants.{TooLong, BadByte, NumberTooBig, NameTooLong, BadSyntax, TooDeep, Unbuilt}
+
+-- a kind, and the offset that it comes with
+abbrev pub at_offset : List ℕ → ℕ → List ℕ
+at_offset kind at = kind ++ codes " " ++ decimal at
 
 abbrev pub refusal_name : Refusal → List ℕ
 refusal_name TooLong = codes "TooLong"
+refusal_name (BadByte at) = at_offset (codes "BadByte") at
+refusal_name (NumberTooBig at) = at_offset (codes "NumberTooBig") at
+refusal_name (NameTooLong at) = at_offset (codes "NameTooLong") at
+refusal_name (BadSyntax at) = at_offset (codes "BadSyntax") at
+refusal_name (TooDeep at) = at_offset (codes "TooDeep") at
 refusal_name Unbuilt = codes "Unbuilt"
 
 -- a text, and why it is refused

@@ -3,16 +3,18 @@ use Rattle.std.specs.Prelude.{◌≡◌, ℕ, ◌<◌, ◌≤◌, List, length, 
 use Rattle.pr_outside.specs.Counts.{Rose}
 use Rattle.pr_outside.specs.Files.{MayFail}
 use Rattle.pr_outside.specs.Written.{Appends, AppendsPrefix}
-use Rattle.prairie_top.specs.declared.rules.Rules.{Rules}
+use Rattle.rule_lex.specs.Lexes.{Refuses}
+use Rattle.rule_lex.specs.declared.error.LexError.TheVariants as lex
+use Rattle.rule_syntax.specs.Syntax.{Rules, Query}
+use Rattle.rule_syntax.specs.Tokens.{Text}
 use Rattle.prairie_top.specs.declared.status.Status.{Status}
 use Rattle.prairie_top.specs.declared.status.Status.TheVariants as status
-use Rattle.prairie_top.specs.Queries.{Query}
 use Rattle.prairie_top.specs.Plans.{Plan, Best, NoPlan}
 use Rattle.prairie_top.specs.PlanText.{plan_text}
-use Rattle.prairie_top.specs.Reading.{ReadsRules, ReadsCatalog, ReadsQuery}
+use Rattle.prairie_top.specs.Reading.{HasTokens, SpellsRules, PlannedRules, ReadsRules, ReadsCatalog, SpellsQuery, PlannedQuery, ReadsQuery}
 use Rattle.prairie_top.specs.Run.{Fetches, Puts, Names, ArePlanWords, Told}
 use Rattle.prairie_top.specs.declared.stage.Refusal.{Refusal}
-use Rattle.prairie_top.specs.declared.stage.Refusal.TheVariants.{TooLong, Unbuilt}
+use Rattle.prairie_top.specs.declared.stage.Refusal.TheVariants.{TooLong, BadByte, NumberTooBig, NameTooLong, BadSyntax, TooDeep, Unbuilt}
 use Rattle.prairie_top.specs.Messages.{refusal_text, usage_text, no_plan_text, memory_text, fault_text}
 
 -- the most bytes of the rules and of the query, and of the catalog
@@ -26,18 +28,35 @@ catalog_limit = 8_388_608
 abbrev pub Within : ℕ → (List ℕ → Type 0) → List ℕ → Type 0
 Within limit P bytes = (length bytes ≤ limit) × P bytes
 
--- the bytes are past the limit, or else not of the form
-abbrev pub IsRefused : ℕ → (List ℕ → Type 0) → Refusal → List ℕ → Type 0
-IsRefused limit HasForm TooLong bytes = limit < length bytes
-IsRefused limit HasForm Unbuilt bytes = Within limit (λ b. HasForm b → ⊥) bytes
+-- the bytes have tokens that are those of no value that is not too deep
+abbrev pub IsUnread : (Text → Type 0) → List ℕ → Type 0
+IsUnread Spells bytes = (ts : Text) × HasTokens bytes ts × (Spells ts → ⊥)
 
--- some rule set is read of the bytes
-abbrev pub HasRules : List ℕ → Type 0
-HasRules bytes = (r : Rules) × ReadsRules r bytes
+-- the bytes have the tokens of a value that is not planned
+abbrev pub IsUnplanned : (Text → Type 0) → (Text → Type 0) → List ℕ → Type 0
+IsUnplanned Spells Planned bytes = (ts : Text) × HasTokens bytes ts × Spells ts × (Planned ts → ⊥)
 
--- some query is
-abbrev pub HasQuery : Rules → List ℕ → Type 0
-HasQuery r bytes = (q : Query) × ReadsQuery r q bytes
+-- the bytes are past the limit; or else have no tokens, at this first place; or are not read; or are not planned
+abbrev pub IsRefused : ℕ → (Text → Type 0) → (Text → Type 0) → Refusal → List ℕ → Type 0
+IsRefused limit Spells Planned TooLong bytes = limit < length bytes
+IsRefused limit Spells Planned (BadByte at) bytes = Within limit (λ b. Refuses b (lex.BadByte at)) bytes
+IsRefused limit Spells Planned (NumberTooBig at) bytes = Within limit (λ b. Refuses b (lex.NumberTooBig at)) bytes
+IsRefused limit Spells Planned (NameTooLong at) bytes = Within limit (λ b. Refuses b (lex.NameTooLong at)) bytes
+IsRefused limit Spells Planned (BadSyntax at) bytes = Within limit (IsUnread Spells) bytes
+IsRefused limit Spells Planned (TooDeep at) bytes = Within limit (IsUnread Spells) bytes
+IsRefused limit Spells Planned Unbuilt bytes = Within limit (IsUnplanned Spells Planned) bytes
+
+abbrev pub IsRulesRefused : Refusal → List ℕ → Type 0
+IsRulesRefused = IsRefused text_limit SpellsRules (λ ts. (r : Rules) × PlannedRules r ts)
+
+abbrev pub IsQueryRefused : Rules → Refusal → List ℕ → Type 0
+IsQueryRefused r = IsRefused text_limit SpellsQuery (λ ts. (q : Query) × PlannedQuery r q ts)
+
+-- a catalog is past the limit, or else another text than `{}`
+abbrev pub IsCatalogRefused : Refusal → List ℕ → Type 0
+IsCatalogRefused TooLong bytes = catalog_limit < length bytes
+IsCatalogRefused Unbuilt bytes = Within catalog_limit (λ b. ReadsCatalog b → ⊥) bytes
+IsCatalogRefused _ bytes = ⊥
 
 -- ---- the causes of the answers to `plan` with these names
 
@@ -59,9 +78,9 @@ module _ (names : Names) (fetches : Fetches) where
 
   -- a text is refused, those before it are not, and this is the answer's text
   pub data RefusedComes (text : List ℕ) : Type 0 where
-    rules_refused : (refusal : Refusal) → Told fetches.held names.rules (IsRefused text_limit HasRules refusal) → AllFetched → text ≡ refusal_text (codes "rules") refusal → RefusedComes text
-    catalog_refused : (refusal : Refusal) (r : Rules) → HoldsRules r → Told fetches.held names.catalog (IsRefused catalog_limit ReadsCatalog refusal) → AllFetched → text ≡ refusal_text (codes "catalog") refusal → RefusedComes text
-    query_refused : (refusal : Refusal) (r : Rules) → HoldsRules r → HoldsCatalog → Told fetches.held names.query (IsRefused text_limit (HasQuery r) refusal) → AllFetched → text ≡ refusal_text (codes "query") refusal → RefusedComes text
+    rules_refused : (refusal : Refusal) → Told fetches.held names.rules (IsRulesRefused refusal) → AllFetched → text ≡ refusal_text (codes "rules") refusal → RefusedComes text
+    catalog_refused : (refusal : Refusal) (r : Rules) → HoldsRules r → Told fetches.held names.catalog (IsCatalogRefused refusal) → AllFetched → text ≡ refusal_text (codes "catalog") refusal → RefusedComes text
+    query_refused : (refusal : Refusal) (r : Rules) → HoldsRules r → HoldsCatalog → Told fetches.held names.query (IsQueryRefused r refusal) → AllFetched → text ≡ refusal_text (codes "query") refusal → RefusedComes text
 
   -- the texts are read as a query under rules
   pub record AreRead (r : Rules) (q : Query) : Type 0 where

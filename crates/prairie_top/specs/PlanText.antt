@@ -3,15 +3,22 @@ use Rattle.std.specs.Prelude.{ℕ, List, [], ◌++◌, codes, Option, Some, None
 use Rattle.std.specs.Fmt.{decimal}
 use Rattle.pr_value.specs.Symbols.{Symbol}
 use Rattle.pr_value.specs.Trees.{node, Trees, nil, cons}
-use Rattle.prairie_top.specs.declared.rules.Rule.{Rule}
+use Rattle.rule_syntax.specs.declared.sides.AlgName.{AlgName}
+use Rattle.rule_syntax.specs.declared.sides.AlgName.TheVariants as alg
+use Rattle.rule_syntax.specs.Syntax.{IRule}
 use Rattle.prairie_top.specs.Plans.{Plan, PlanLabel, file, algorithm, cost}
 
--- the name of the rule's algorithm
-abbrev pub name_in : Option Rule → Symbol
-name_in None = []
-name_in (Some r) = r.right.name
+-- the algorithm's name
+abbrev pub algorithm_name : AlgName → Symbol
+algorithm_name (alg.Named a) = a
+algorithm_name alg.Null = []
 
-module _ (rules : List Rule) where
+-- the name of the rule's algorithm
+abbrev pub name_in : Option IRule → Symbol
+name_in None = []
+name_in (Some r) = algorithm_name r.right.alg
+
+module _ (rules : List IRule) where
   -- a line for each node, a node before its inputs, which are indented by two more blanks
   abbrev mutual
     pub node_text : List ℕ → Plan → List ℕ

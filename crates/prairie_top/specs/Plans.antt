@@ -1,16 +1,15 @@
 -- Plans, what they implement, their costs, and best plans.
-use Rattle.std.specs.Prelude.{◌≡◌, ℕ, ◌≤◌, min, List, [], map, Some, slice_get, slice_index, ⊤}
+use Rattle.std.specs.Prelude.{◌≡◌, ℕ, ◌≤◌, min, if◌then◌else◌, List, [], ◌∷◌, map, Some, slice_get, ⊤}
+use Rattle.std.specs.Str.{bytes_eq}
 use Rattle.pr_value.specs.Capped.{cap, capped_add}
 use Rattle.pr_value.specs.Symbols.{Symbol}
 use Rattle.pr_value.specs.Trees.{Tree, node, Trees, nil, cons, list_of, tree}
-use Rattle.prairie_top.specs.declared.rules.Cost.{Cost}
-use Rattle.prairie_top.specs.declared.rules.Cost.TheVariants as cost_form
-use Rattle.prairie_top.specs.declared.rules.Rule.{Rule}
+use Rattle.rule_syntax.specs.declared.expr.BinOp.TheVariants as op
+use Rattle.rule_syntax.specs.Syntax.{Expr, number, read, binary, Stmt, set, LeftLabel, QueryLabel, IRule, Query}
+use Rattle.prairie_top.specs.Form.{input_descriptors}
 use Rattle.prairie_top.specs.declared.plan.Plan as code
 use Rattle.prairie_top.specs.declared.plan.Plan.TheOpen.{Plan-F}
 use Rattle.prairie_top.specs.declared.plan.Plan.TheFolds.{fold-Plan}
-use Rattle.prairie_top.specs.Queries.{Query}
-use Rattle.prairie_top.specs.Queries as query
 
 -- a file, or the algorithm of a rule by its place, at a cost
 pub data PlanLabel : Type 0 where
@@ -33,21 +32,42 @@ abbrev pub cost : Plan → ℕ
 cost (node (file name) ps) = 0
 cost (node (algorithm rule c) ps) = c
 
--- the cost that a rule gives, from the costs of the inputs
-abbrev pub cost_of : Cost → List ℕ → ℕ
-cost_of (cost_form.Number n) costs = min n cap
-cost_of (cost_form.Plus n) costs = capped_add (slice_index costs 0) n
+-- the cost of the input with this descriptor
+abbrev pub input_cost : List Symbol → List ℕ → Symbol → ℕ
+input_cost (i ∷ is) (c ∷ cs) d = if bytes_eq i d then min c cap else input_cost is cs d
+input_cost _ _ d = 0
 
-module _ (rules : List Rule) where
+-- what a sum comes to, from the costs of the inputs
+abbrev pub sum_of : List Symbol → List ℕ → Expr → ℕ
+sum_of inputs costs (number n) = min n cap
+sum_of inputs costs (read d p) = input_cost inputs costs d
+sum_of inputs costs (binary a op.Add b) = capped_add (sum_of inputs costs a) (sum_of inputs costs b)
+sum_of inputs costs _ = 0
+
+-- what the last statement sets the cost to
+abbrev pub set_cost : List Symbol → List ℕ → List Stmt → ℕ
+set_cost inputs costs (set d p e ∷ []) = sum_of inputs costs e
+set_cost inputs costs _ = 0
+
+-- the cost that a rule gives, from the costs of the inputs
+abbrev pub cost_of : IRule → List ℕ → ℕ
+cost_of r costs = set_cost (input_descriptors r.right) costs r.body.post
+
+-- the operator of a side
+abbrev pub operator_of : Tree LeftLabel → Symbol
+operator_of (node (LeftLabel.operator o d) ls) = o
+operator_of (node (LeftLabel.stream n d) ls) = []
+
+module _ (rules : List IRule) where
   -- the plan implements the tree: a file by itself, an operator by a rule of it over plans for its inputs
   abbrev mutual
     pub Implements : Plan → Query → Type 0
-    Implements (node (file name) nil) (node (query.file other) nil) = name ≡ other
-    Implements (node (algorithm i c) ps) (node (query.operator op) qs) =
-        (r : Rule) × (slice_get rules i ≡ Some r) × (r.left.name ≡ op) × (c ≡ cost_of r.cost (map cost (list_of ps))) × AllImplement ps qs
+    Implements (node (file name) nil) (node (QueryLabel.file other) nil) = name ≡ other
+    Implements (node (algorithm i c) ps) (node (QueryLabel.operator o settings) qs) =
+        (r : IRule) × (slice_get rules i ≡ Some r) × (operator_of r.left ≡ o) × (c ≡ cost_of r (map cost (list_of ps))) × AllImplement ps qs
     Implements _ _ = ⊥
 
-    pub AllImplement : Trees PlanLabel → Trees query.QueryLabel → Type 0
+    pub AllImplement : Trees PlanLabel → Trees QueryLabel → Type 0
     AllImplement nil nil = ⊤
     AllImplement (cons p ps) (cons q qs) = Implements p q × AllImplement ps qs
     AllImplement _ _ = ⊥

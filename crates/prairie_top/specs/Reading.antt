@@ -1,31 +1,36 @@
 -- What the bytes of a text read as.
-use Rattle.std.specs.Prelude.{◌≡◌, ℕ, ◌≤◌, true, List, map, codes}
+use Rattle.std.specs.Prelude.{◌≡◌, ℕ, true, List, map, codes}
 use Rattle.pr_value.specs.declared.token.Token.{Token}
 use Rattle.rule_lex.specs.Lexes.{Lexes}
-use Rattle.prairie_top.specs.declared.rules.Rules.{Rules}
-use Rattle.prairie_top.specs.Grammar.{Text, tokens_of, query_tokens}
-use Rattle.prairie_top.specs.Form.{spells, accepts, operator_names, nodes, most_nodes, fits}
-use Rattle.prairie_top.specs.Queries.{Query}
+use Rattle.rule_syntax.specs.Syntax.{Rules, Query}
+use Rattle.rule_syntax.specs.Tokens.{Text}
+use Rattle.rule_syntax.specs.Levels.{IsRules, IsQuery}
+use Rattle.prairie_top.specs.Form.{is_planned, is_planned_query}
 
 -- the text has these tokens, wherever they stand
 abbrev pub HasTokens : List ℕ → Text → Type 0
 HasTokens bytes ts = (placed : List (Token × ℕ)) × Lexes bytes placed × (map (λ p. p.0) placed ≡ ts)
 
--- the rule set is of the form and accepted
-pub record IsRules (r : Rules) : Type 0 where
-  pub spelled : spells r ≡ true
-  pub accepted : accepts r ≡ true
+-- the tokens are those of a rule set, and of one that is planned
+abbrev pub SpellsRules : Text → Type 0
+SpellsRules ts = (r : Rules) × IsRules r ts
 
+abbrev pub PlannedRules : Rules → Text → Type 0
+PlannedRules r ts = IsRules r ts × (is_planned r ≡ true)
+
+-- the bytes are a text of this rule set, which is planned
 abbrev pub ReadsRules : Rules → List ℕ → Type 0
-ReadsRules r bytes = IsRules r × HasTokens bytes (tokens_of r)
+ReadsRules r bytes = (ts : Text) × HasTokens bytes ts × PlannedRules r ts
 
 abbrev pub ReadsCatalog : List ℕ → Type 0
 ReadsCatalog bytes = bytes ≡ codes "{}"
 
--- the query is of the form, over these rules
-pub record IsQuery (r : Rules) (q : Query) : Type 0 where
-  pub few : nodes q ≤ most_nodes
-  pub fitting : fits (operator_names r) q ≡ true
+-- the tokens are those of a query, and of one that is planned with the rules
+abbrev pub SpellsQuery : Text → Type 0
+SpellsQuery ts = (q : Query) × IsQuery q ts
+
+abbrev pub PlannedQuery : Rules → Query → Text → Type 0
+PlannedQuery r q ts = IsQuery q ts × (is_planned_query r q ≡ true)
 
 abbrev pub ReadsQuery : Rules → Query → List ℕ → Type 0
-ReadsQuery r q bytes = IsQuery r q × HasTokens bytes (query_tokens q)
+ReadsQuery r q bytes = (ts : Text) × HasTokens bytes ts × PlannedQuery r q ts

@@ -3,11 +3,10 @@ use Rattle.std.specs.Prelude.{◌≡◌, ℕ, ◌≤◌, nat_le, if◌then◌els
 use Rattle.std.specs.Str.{bytes_eq}
 use Rattle.pr_value.specs.Trees.{tree}
 use Rattle.pr_value.specs.Symbols.{Symbol}
-use Rattle.prairie_top.specs.declared.rules.Rule.{Rule}
-use Rattle.prairie_top.specs.Queries.{Query}
-use Rattle.prairie_top.specs.Plans.{Plan, algorithm, cost, cost_of, Best, NoPlan}
+use Rattle.rule_syntax.specs.Syntax.{IRule, Query}
+use Rattle.prairie_top.specs.Plans.{Plan, algorithm, cost, cost_of, operator_of, Best, NoPlan}
 
-module _ (rules : List Rule) where
+module _ (rules : List IRule) where
   -- a best plan of the query, or none where there is none
   abbrev pub IsBest : Query → Option Plan → Type 0
   IsBest q None = NoPlan rules q
@@ -26,7 +25,7 @@ module _ (rules : List Rule) where
 
   -- the rule at this place is one of the operator, at this cost
   abbrev pub IsRuleOf : Symbol → List ℕ → ℕ → ℕ → Type 0
-  IsRuleOf op costs i c = (r : Rule) × (slice_get rules i ≡ Some r) × (r.left.name ≡ op) × (c ≡ cost_of r.cost costs)
+  IsRuleOf op costs i c = (r : IRule) × (slice_get rules i ≡ Some r) × (operator_of r.left ≡ op) × (c ≡ cost_of r costs)
 
   -- a cheapest rule of the operator, by its place, with its cost; or none where it has none
   abbrev pub IsCheapest : Symbol → List ℕ → Option (ℕ × ℕ) → Type 0
@@ -44,5 +43,5 @@ lesser None x = Some x
 lesser (Some y) x = if nat_le y.1 x.1 then Some y else Some x
 
 -- the cheapest so far and one more rule, at its place
-abbrev pub with_rule : Symbol → List ℕ → Option (ℕ × ℕ) → ℕ → Rule → Option (ℕ × ℕ)
-with_rule op costs best i r = if bytes_eq r.left.name op then lesser best (i, cost_of r.cost costs) else best
+abbrev pub with_rule : Symbol → List ℕ → Option (ℕ × ℕ) → ℕ → IRule → Option (ℕ × ℕ)
+with_rule op costs best i r = if bytes_eq (operator_of r.left) op then lesser best (i, cost_of r costs) else best

@@ -1,17 +1,17 @@
 // The three texts, each fetched and read whole.
-ghost use Rattle.std.specs.Prelude.{◌≡◌, codes, List, ℕ, IsTrue, ◌↔◌, IfOk};
+ghost use Rattle.std.specs.Prelude.{◌≡◌, IsTrue, ◌↔◌, IfOk};
 ghost use Rattle.prairie_top.specs.Run.{Fetches};
-ghost use Rattle.prairie_top.specs.Outcome.{HasRules, HasQuery};
-ghost use Rattle.prairie_top.specs.Queries.{seen_query};
+ghost use Rattle.rule_syntax.specs.Seen.{seen_query};
+ghost use Rattle.rule_syntax.specs.SeenRules.{seen_rules};
+ghost use Rattle.prairie_top.specs.Outcome.{IsRulesRefused, IsCatalogRefused, IsQueryRefused};
 ghost use Rattle.prairie_top.specs.Reading.{ReadsRules, ReadsCatalog, ReadsQuery};
 ghost use Rattle.prairie_top.specs.Stages.{IsFetched, IsStage};
 
-use crate::query::Query;
 use crate::reading::{query_in, rules_in};
-use crate::rules::Rules;
 use crate::stage::{Refusal, Stage};
 use pr_outside::{Bytes, FetchError, Name, Shelf};
 use pr_value::Memory;
+use rule_syntax::{QueryText, Rules};
 use std::alloc::Global;
 
 /// The most bytes of the rules and of the query.
@@ -46,12 +46,12 @@ pub fn fetch_rules<F: Shelf>(
 ) -> Result<Stage<Rules>, Memory>
     ensures held { F.held shelf.new ≡ F.held shelf.old }
     ensures sure { F.sure shelf.new ≡ F.sure shelf.old }
-    ensures stage { IfOk result (IsStage HasRules ReadsRules (record { held = F.held shelf.old; sure = F.sure shelf.old; before = F.faults shelf.old; after = F.faults shelf.new }) name.now TEXT_LIMIT) }
+    ensures stage { IfOk result (IsStage IsRulesRefused (λ r. ReadsRules (seen_rules r)) (record { held = F.held shelf.old; sure = F.sure shelf.old; before = F.faults shelf.old; after = F.faults shelf.new }) name.now TEXT_LIMIT) }
 {
     match fetched(alloc, shelf, name, TEXT_LIMIT)? {
         Stage::Read(bytes) => match rules_in(alloc, bytes.as_slice())? {
-            Some(rules) => Ok(Stage::Read(rules)),
-            None => Ok(Stage::Refused(Refusal::Unbuilt)),
+            Ok(rules) => Ok(Stage::Read(rules)),
+            Err(refusal) => Ok(Stage::Refused(refusal)),
         },
         Stage::Refused(refusal) => Ok(Stage::Refused(refusal)),
         Stage::Failed => Ok(Stage::Failed),
@@ -66,7 +66,7 @@ pub fn fetch_catalog<F: Shelf>(
 ) -> Result<Stage<()>, Memory>
     ensures held { F.held shelf.new ≡ F.held shelf.old }
     ensures sure { F.sure shelf.new ≡ F.sure shelf.old }
-    ensures stage { IfOk result (IsStage ReadsCatalog (λ _. ReadsCatalog) (record { held = F.held shelf.old; sure = F.sure shelf.old; before = F.faults shelf.old; after = F.faults shelf.new }) name.now CATALOG_LIMIT) }
+    ensures stage { IfOk result (IsStage IsCatalogRefused (λ _. ReadsCatalog) (record { held = F.held shelf.old; sure = F.sure shelf.old; before = F.faults shelf.old; after = F.faults shelf.new }) name.now CATALOG_LIMIT) }
 {
     match fetched(alloc, shelf, name, CATALOG_LIMIT)? {
         Stage::Read(bytes) => {
@@ -93,15 +93,15 @@ pub fn fetch_query<F: Shelf>(
     rules: &Rules,
     shelf: &mut F,
     name: &Name,
-) -> Result<Stage<Query>, Memory>
+) -> Result<Stage<QueryText>, Memory>
     ensures held { F.held shelf.new ≡ F.held shelf.old }
     ensures sure { F.sure shelf.new ≡ F.sure shelf.old }
-    ensures stage { IfOk result (IsStage (HasQuery rules.now) (λ q. ReadsQuery rules.now (seen_query q)) (record { held = F.held shelf.old; sure = F.sure shelf.old; before = F.faults shelf.old; after = F.faults shelf.new }) name.now TEXT_LIMIT) }
+    ensures stage { IfOk result (IsStage (IsQueryRefused (seen_rules rules.now)) (λ q. ReadsQuery (seen_rules rules.now) (seen_query q)) (record { held = F.held shelf.old; sure = F.sure shelf.old; before = F.faults shelf.old; after = F.faults shelf.new }) name.now TEXT_LIMIT) }
 {
     match fetched(alloc, shelf, name, TEXT_LIMIT)? {
         Stage::Read(bytes) => match query_in(alloc, rules, bytes.as_slice())? {
-            Some(query) => Ok(Stage::Read(query)),
-            None => Ok(Stage::Refused(Refusal::Unbuilt)),
+            Ok(query) => Ok(Stage::Read(query)),
+            Err(refusal) => Ok(Stage::Refused(refusal)),
         },
         Stage::Refused(refusal) => Ok(Stage::Refused(refusal)),
         Stage::Failed => Ok(Stage::Failed),

@@ -1,6 +1,7 @@
 ghost use Rattle.prairie_top.specs.Laws.{OneAnswer, Complete, NeverFails};
 
 use rule_lex::token_laws;
+use rule_syntax::spelling_laws;
 
 /// The answers of `run` exclude each other; `plan` over texts that are read ends with a best plan,
 /// or with `no plan`, or for want of memory, where nothing fails; and a shelf that is sure and
@@ -11,4 +12,5 @@ pub fn outcome_laws()
     ensures sure { NeverFails }
 {
     token_laws();
+    spelling_laws();
 }

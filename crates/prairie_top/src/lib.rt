@@ -1,15 +1,16 @@
 //! The top call: from words to an answer.
 #![tactic(auto)]
 
+mod conditions;
+mod cost;
 mod fetching;
+mod form;
 mod laws;
 mod messages;
 mod names;
 mod plan;
 mod plan_text;
-mod query;
 mod reading;
-mod rules;
 mod search;
 mod stage;
 mod status;

@@ -1,30 +1,57 @@
 ghost use Rattle.std.specs.Prelude.{◌≡◌, ◌++◌, [], OnOk};
-ghost use Rattle.prairie_top.specs.Messages.{refusal_name, refusal_text, fault_text};
+ghost use Rattle.prairie_top.specs.Messages.{at_offset, refusal_name, refusal_text, fault_text};
 
 use crate::stage::Refusal;
 use pr_outside::Name;
 use pr_value::{Memory, Text};
+use std::alloc::Global;
 
 /// Makes an empty text that of a refusal.
-pub fn push_refusal(which: &[u8], refusal: Refusal, text: &mut Text) -> Result<(), Memory>
+pub fn push_refusal(
+    alloc: Global,
+    which: &[u8],
+    refusal: Refusal,
+    text: &mut Text,
+) -> Result<(), Memory>
     requires { text.old ≡ [] }
     ensures { OnOk result (text.new ≡ refusal_text which.now refusal) }
 {
     text.push_bytes(b"refused ")?;
     text.push_bytes(which)?;
     text.push_bytes(b" ")?;
-    text.push_bytes(name_of(refusal))?;
+    push_kind(alloc, refusal, text)?;
     text.push_bytes(b"\n")?;
     Ok(())
 }
 
-fn name_of(refusal: Refusal) -> &'static [u8]
-    ensures { result.now ≡ refusal_name refusal }
+fn push_kind(alloc: Global, refusal: Refusal, text: &mut Text) -> Result<(), Memory>
+    ensures { OnOk result (text.new ≡ text.old ++ refusal_name refusal) }
 {
     match refusal {
-        Refusal::TooLong => b"TooLong",
-        Refusal::Unbuilt => b"Unbuilt",
+        Refusal::TooLong => {
+            text.push_bytes(b"TooLong")?;
+            Ok(())
+        }
+        Refusal::BadByte { at } => push_at(alloc, b"BadByte", at, text),
+        Refusal::NumberTooBig { at } => push_at(alloc, b"NumberTooBig", at, text),
+        Refusal::NameTooLong { at } => push_at(alloc, b"NameTooLong", at, text),
+        Refusal::BadSyntax { at } => push_at(alloc, b"BadSyntax", at, text),
+        Refusal::TooDeep { at } => push_at(alloc, b"TooDeep", at, text),
+        Refusal::Unbuilt => {
+            text.push_bytes(b"Unbuilt")?;
+            Ok(())
+        }
     }
+}
+
+fn push_at(alloc: Global, kind: &[u8], at: usize, text: &mut Text) -> Result<(), Memory>
+    ensures { OnOk result (text.new ≡ text.old ++ at_offset kind.now at) }
+{
+    let digits = at.to_string(alloc)?;
+    text.push_bytes(kind)?;
+    text.push_bytes(b" ")?;
+    text.push_bytes(digits.as_bytes())?;
+    Ok(())
 }
 
 /// Makes an empty text that of a fetch that failed.

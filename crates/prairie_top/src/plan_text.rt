@@ -1,19 +1,20 @@
-ghost use Rattle.std.specs.Prelude.{◌≡◌, ◌++◌, [], codes, map, slice_get, IfOk, OnOk};
+ghost use Rattle.std.specs.Prelude.{◌≡◌, ◌++◌, [], codes, map, option_map, slice_get, IfOk, OnOk};
 ghost use Rattle.std.specs.Fmt.{decimal};
 ghost use Rattle.std.specs.Option.{option_copied};
 ghost use Rattle.pr_value.specs.Trees.{trees_of};
 ghost use Rattle.prairie_top.specs.Plans.{seen_plan};
+ghost use Rattle.rule_syntax.specs.Seen.{seen_irule};
 ghost use Rattle.prairie_top.specs.PlanText.{name_in, node_text, inputs_text, plan_text};
 
 use crate::plan::Plan;
-use crate::rules::Rule;
 use pr_value::{Memory, Symbol, Text};
+use rule_syntax::{AlgName, IRule};
 use std::alloc::Global;
 
 /// Appends the text of the plan: its cost, and a line for each node. After `Memory` the text is
 /// not to be used.
-pub fn push_plan(alloc: Global, rules: &[Rule], plan: &Plan, out: &mut Text) -> Result<(), Memory>
-    ensures { OnOk result (out.new ≡ out.old ++ plan_text rules.now (seen_plan plan.now)) }
+pub fn push_plan(alloc: Global, rules: &[IRule], plan: &Plan, out: &mut Text) -> Result<(), Memory>
+    ensures { OnOk result (out.new ≡ out.old ++ plan_text (map seen_irule rules.now) (seen_plan plan.now)) }
 {
     out.push_bytes(b"cost ")?;
     push_number(alloc, plan.cost(), out)?;
@@ -33,12 +34,12 @@ fn push_number(alloc: Global, n: u64, out: &mut Text) -> Result<(), Memory>
 #[cycle(text)]
 fn push_node(
     alloc: Global,
-    rules: &[Rule],
+    rules: &[IRule],
     indent: &[u8],
     plan: &Plan,
     out: &mut Text,
 ) -> Result<(), Memory>
-    ensures { OnOk result (out.new ≡ out.old ++ node_text rules.now indent.now (seen_plan plan.now)) }
+    ensures { OnOk result (out.new ≡ out.old ++ node_text (map seen_irule rules.now) indent.now (seen_plan plan.now)) }
 {
     match plan {
         Plan::File(name) => {
@@ -60,12 +61,12 @@ fn push_node(
 #[cycle(text)]
 fn push_inputs(
     alloc: Global,
-    rules: &[Rule],
+    rules: &[IRule],
     indent: &[u8],
     plans: &[Plan],
     out: &mut Text,
 ) -> Result<(), Memory>
-    ensures { OnOk result (out.new ≡ out.old ++ inputs_text rules.now indent.now (trees_of (map seen_plan plans.now))) }
+    ensures { OnOk result (out.new ≡ out.old ++ inputs_text (map seen_irule rules.now) indent.now (trees_of (map seen_plan plans.now))) }
 {
     for plan in plans {
         push_node(alloc, rules, indent, plan, out)?;
@@ -83,7 +84,7 @@ fn push_file(indent: &[u8], name: &Symbol, out: &mut Text) -> Result<(), Memory>
     Ok(())
 }
 
-fn rule_at(rules: &[Rule], i: usize) -> Option<&Rule>
+fn rule_at(rules: &[IRule], i: usize) -> Option<&IRule>
     ensures { option_copied result ≡ slice_get rules.now i }
 {
     rules.get(i)
@@ -93,11 +94,11 @@ fn rule_at(rules: &[Rule], i: usize) -> Option<&Rule>
 fn push_algorithm(
     alloc: Global,
     indent: &[u8],
-    rule: Option<&Rule>,
+    rule: Option<&IRule>,
     cost: u64,
     out: &mut Text,
 ) -> Result<(), Memory>
-    ensures { OnOk result (out.new ≡ out.old ++ (indent.now ++ name_in (option_copied rule.entry) ++ codes " cost=" ++ decimal cost ++ codes "\n")) }
+    ensures { OnOk result (out.new ≡ out.old ++ (indent.now ++ name_in (option_map seen_irule (option_copied rule.entry)) ++ codes " cost=" ++ decimal cost ++ codes "\n")) }
 {
     out.push_bytes(indent)?;
     push_name(rule, out)?;
@@ -107,14 +108,17 @@ fn push_algorithm(
     Ok(())
 }
 
-fn push_name(rule: Option<&Rule>, out: &mut Text) -> Result<(), Memory>
-    ensures { OnOk result (out.new ≡ out.old ++ name_in (option_copied rule.entry)) }
+fn push_name(rule: Option<&IRule>, out: &mut Text) -> Result<(), Memory>
+    ensures { OnOk result (out.new ≡ out.old ++ name_in (option_map seen_irule (option_copied rule.entry))) }
 {
     match rule {
-        Some(rule) => {
-            out.push_bytes(rule.right.name.as_slice())?;
-            Ok(())
-        }
+        Some(rule) => match &rule.right.alg {
+            AlgName::Named(name) => {
+                out.push_bytes(name.as_slice())?;
+                Ok(())
+            }
+            AlgName::Null => Ok(()),
+        },
         None => Ok(()),
     }
 }

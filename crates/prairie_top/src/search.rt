@@ -1,22 +1,22 @@
 ghost use Rattle.std.specs.Prelude.{◌≡◌, map, option_map, slice_index, IfOk};
 ghost use Rattle.prairie_top.specs.Plans.{cost, cost_of, seen_plan};
-ghost use Rattle.prairie_top.specs.Queries.{seen_query};
+ghost use Rattle.rule_syntax.specs.Seen.{seen_query, seen_irule};
 ghost use Rattle.prairie_top.specs.Search.{IsBest, AreBest, IsOver, IsCheapest, lesser, with_rule};
 
+use crate::cost::cost_of;
 use crate::plan::Plan;
-use crate::query::Query;
-use crate::rules::Rule;
 use pr_value::{Items, Memory, Symbol};
+use rule_syntax::{IRule, QueryText};
 use std::alloc::Global;
 
 /// A plan of least cost, or none where no plan implements the query.
 #[cycle(search)]
-pub fn best_plan(alloc: Global, rules: &[Rule], query: &Query) -> Result<Option<Plan>, Memory>
-    ensures { IfOk result (λ o. IsBest rules.now (seen_query query.now) (option_map seen_plan o)) }
+pub fn best_plan(alloc: Global, rules: &[IRule], query: &QueryText) -> Result<Option<Plan>, Memory>
+    ensures { IfOk result (λ o. IsBest (map seen_irule rules.now) (seen_query query.now) (option_map seen_plan o)) }
 {
     match query {
-        Query::File(name) => Ok(Some(Plan::File(name.copy(alloc)?))),
-        Query::Node { op, inputs } => match best_inputs(alloc, rules, inputs.as_slice())? {
+        QueryText::File(name) => Ok(Some(Plan::File(name.copy(alloc)?))),
+        QueryText::Node { op, inputs, .. } => match best_inputs(alloc, rules, inputs.as_slice())? {
             Some(plans) => best_over(alloc, rules, op, plans),
             None => Ok(None),
         },
@@ -27,10 +27,10 @@ pub fn best_plan(alloc: Global, rules: &[Rule], query: &Query) -> Result<Option<
 #[cycle(search)]
 fn best_inputs(
     alloc: Global,
-    rules: &[Rule],
-    queries: &[Query],
+    rules: &[IRule],
+    queries: &[QueryText],
 ) -> Result<Option<Items<Plan>>, Memory>
-    ensures { IfOk result (λ o. AreBest rules.now (map seen_query queries.now) (option_map (map seen_plan) o)) }
+    ensures { IfOk result (λ o. AreBest (map seen_irule rules.now) (map seen_query queries.now) (option_map (map seen_plan) o)) }
 {
     let mut plans = Items::new(alloc);
     for query in queries {
@@ -45,11 +45,11 @@ fn best_inputs(
 /// The plan by the cheapest rule of the operator over plans for its inputs.
 fn best_over(
     alloc: Global,
-    rules: &[Rule],
+    rules: &[IRule],
     op: &Symbol,
     plans: Items<Plan>,
 ) -> Result<Option<Plan>, Memory>
-    ensures { IfOk result (λ o. IsOver rules.now op.now (map seen_plan plans) (option_map seen_plan o)) }
+    ensures { IfOk result (λ o. IsOver (map seen_irule rules.now) op.now (map seen_plan plans) (option_map seen_plan o)) }
 {
     let costs = costs_of(alloc, plans.as_slice())?;
     match cheapest(rules, op, costs.as_slice()) {
@@ -69,8 +69,8 @@ fn costs_of(alloc: Global, plans: &[Plan]) -> Result<Vec<u64>, Memory>
 }
 
 /// The cheapest rule of the operator, by its place from 0, with its cost.
-fn cheapest(rules: &[Rule], op: &Symbol, costs: &[u64]) -> Option<(usize, u64)>
-    ensures { IsCheapest rules.now op.now costs.now result }
+fn cheapest(rules: &[IRule], op: &Symbol, costs: &[u64]) -> Option<(usize, u64)>
+    ensures { IsCheapest (map seen_irule rules.now) op.now costs.now result }
 {
     let mut best = None;
     for (i, rule) in rules.iter().enumerate() {
@@ -84,12 +84,12 @@ fn with_rule(
     costs: &[u64],
     best: Option<(usize, u64)>,
     i: usize,
-    rule: &Rule,
+    rule: &IRule,
 ) -> Option<(usize, u64)>
-    ensures { result ≡ with_rule op.now costs.now best i rule.now }
+    ensures { result ≡ with_rule op.now costs.now best i (seen_irule rule.now) }
 {
-    if rule.left.name == *op {
-        lesser(best, (i, rule.cost.over(costs)))
+    if rule.left.op == *op {
+        lesser(best, (i, cost_of(rule, costs)))
     } else {
         best
     }

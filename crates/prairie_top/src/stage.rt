@@ -1,9 +1,19 @@
-/// Why a text is refused.
+/// Why a text is refused. Offsets are in bytes from the start of the text.
 #[derive(Clone, Copy, PartialEq, Eq, Debug)]
 pub enum Refusal {
     /// It has more bytes than such a text may have.
     TooLong,
-    /// It is not of the form that is planned.
+    /// No token begins at this offset.
+    BadByte { at: usize },
+    /// A number past 10^18 begins at this offset.
+    NumberTooBig { at: usize },
+    /// A name of more than 64 bytes begins at this offset.
+    NameTooLong { at: usize },
+    /// The token at this offset goes on with no text of the grammar, or the text ends too early.
+    BadSyntax { at: usize },
+    /// A part that is nested too deep begins at this offset.
+    TooDeep { at: usize },
+    /// It is read, and is not of the form that is planned.
     Unbuilt,
 }
 

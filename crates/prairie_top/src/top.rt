@@ -1,6 +1,7 @@
 ghost use Rattle.std.specs.Prelude.{◌≡◌, ◌≢◌, [], IfOk};
 ghost use Rattle.prairie_top.specs.Outcome.{HoldsRules, HoldsCatalog, PlanComes, Comes, PutsOnce, Ends};
-ghost use Rattle.prairie_top.specs.Queries.{seen_query};
+ghost use Rattle.rule_syntax.specs.Seen.{seen_query};
+ghost use Rattle.rule_syntax.specs.SeenRules.{seen_rules};
 ghost use Rattle.prairie_top.specs.SeenNames.{seen_names};
 ghost use Rattle.prairie_top.specs.Stages.{IsDecided};
 
@@ -8,14 +9,13 @@ use crate::fetching::{fetch_catalog, fetch_query, fetch_rules};
 use crate::messages::{push_fault, push_refusal};
 use crate::names::Names;
 use crate::plan_text::push_plan;
-use crate::query::Query;
-use crate::rules::Rules;
 use crate::search::best_plan;
 use crate::stage::Stage;
 use crate::status::Status;
 use crate::words::plan_words;
 use pr_outside::{Name, PutError, Shelf, Sink};
 use pr_value::{Memory, Text};
+use rule_syntax::{QueryText, Rules};
 use std::alloc::Global;
 
 const USAGE: &[u8] =
@@ -88,7 +88,7 @@ fn planned<F: Shelf>(
     match fetch_rules(alloc, shelf, names.rules)? {
         Stage::Read(rules) => with_rules(alloc, &rules, names, shelf, text),
         Stage::Refused(refusal) => {
-            push_refusal(b"rules", refusal, text)?;
+            push_refusal(alloc, b"rules", refusal, text)?;
             Ok(Status::Refused)
         }
         Stage::Failed => {
@@ -107,14 +107,14 @@ fn with_rules<F: Shelf>(
     text: &mut Text,
 ) -> Result<Status, Memory>
     requires empty { text.old ≡ [] }
-    requires rules { HoldsRules (seen_names names.now) (record { held = F.held shelf.old; sure = F.sure shelf.old; before = F.faults shelf.old; after = F.faults shelf.old }) rules.now }
+    requires rules { HoldsRules (seen_names names.now) (record { held = F.held shelf.old; sure = F.sure shelf.old; before = F.faults shelf.old; after = F.faults shelf.old }) (seen_rules rules.now) }
     ensures held { F.held shelf.new ≡ F.held shelf.old }
     ensures comes { IfOk result (λ came. PlanComes (seen_names names.now) (record { held = F.held shelf.old; sure = F.sure shelf.old; before = F.faults shelf.old; after = F.faults shelf.new }) came text.new) }
 {
     match fetch_catalog(alloc, shelf, names.catalog)? {
         Stage::Read(()) => with_catalog(alloc, rules, names, shelf, text),
         Stage::Refused(refusal) => {
-            push_refusal(b"catalog", refusal, text)?;
+            push_refusal(alloc, b"catalog", refusal, text)?;
             Ok(Status::Refused)
         }
         Stage::Failed => {
@@ -133,7 +133,7 @@ fn with_catalog<F: Shelf>(
     text: &mut Text,
 ) -> Result<Status, Memory>
     requires empty { text.old ≡ [] }
-    requires rules { HoldsRules (seen_names names.now) (record { held = F.held shelf.old; sure = F.sure shelf.old; before = F.faults shelf.old; after = F.faults shelf.old }) rules.now }
+    requires rules { HoldsRules (seen_names names.now) (record { held = F.held shelf.old; sure = F.sure shelf.old; before = F.faults shelf.old; after = F.faults shelf.old }) (seen_rules rules.now) }
     requires catalog { HoldsCatalog (seen_names names.now) (record { held = F.held shelf.old; sure = F.sure shelf.old; before = F.faults shelf.old; after = F.faults shelf.old }) }
     ensures held { F.held shelf.new ≡ F.held shelf.old }
     ensures comes { IfOk result (λ came. PlanComes (seen_names names.now) (record { held = F.held shelf.old; sure = F.sure shelf.old; before = F.faults shelf.old; after = F.faults shelf.new }) came text.new) }
@@ -141,7 +141,7 @@ fn with_catalog<F: Shelf>(
     match fetch_query(alloc, rules, shelf, names.query)? {
         Stage::Read(query) => decided(alloc, rules, &query, text),
         Stage::Refused(refusal) => {
-            push_refusal(b"query", refusal, text)?;
+            push_refusal(alloc, b"query", refusal, text)?;
             Ok(Status::Refused)
         }
         Stage::Failed => {
@@ -152,9 +152,14 @@ fn with_catalog<F: Shelf>(
 }
 
 /// A best plan of the query, or that there is none.
-fn decided(alloc: Global, rules: &Rules, query: &Query, text: &mut Text) -> Result<Status, Memory>
+fn decided(
+    alloc: Global,
+    rules: &Rules,
+    query: &QueryText,
+    text: &mut Text,
+) -> Result<Status, Memory>
     requires { text.old ≡ [] }
-    ensures { IfOk result (λ came. IsDecided rules.now (seen_query query.now) came text.new) }
+    ensures { IfOk result (λ came. IsDecided (seen_rules rules.now) (seen_query query.now) came text.new) }
 {
     match best_plan(alloc, rules.irules.as_slice(), query)? {
         Some(plan) => {

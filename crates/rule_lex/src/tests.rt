@@ -80,10 +80,10 @@ fn gaps(rt: HostRuntime) {
 }
 
 #[test]
-fn words_and_numbers(rt: HostRuntime) {
+fn words(rt: HostRuntime) {
     let alloc = rt.alloc();
     let minus = Want::Mark(Mark::Minus);
-    let known: [(&[u8], &[(Want, usize)]); 16] = [
+    let known: [(&[u8], &[(Want, usize)]); 7] = [
         (b"_", &[(Want::Name(b"_"), 0)]),
         (
             b"File_scan2 Z",
@@ -94,25 +94,6 @@ fn words_and_numbers(rt: HostRuntime) {
             &[(Want::Name(b"a"), 0), (minus, 1), (Want::Name(b"b"), 2)],
         ),
         (b"a'b", &[(Want::Name(b"a"), 0), (Want::Quoted(b"b"), 1)]),
-        (b"1a", &[(Want::Number(1), 0), (Want::Name(b"a"), 1)]),
-        (b"12_3", &[(Want::Number(12), 0), (Want::Name(b"_3"), 2)]),
-        (b"0", &[(Want::Number(0), 0)]),
-        (b"007", &[(Want::Number(7), 0)]),
-        (
-            b"1.5",
-            &[
-                (Want::Number(1), 0),
-                (Want::Mark(Mark::Dot), 1),
-                (Want::Number(5), 2),
-            ],
-        ),
-        (b"-3", &[(minus, 0), (Want::Number(3), 1)]),
-        (b"1000000000000000000", &[(Want::Number(CAP), 0)]),
-        (b"0000000001000000000000000000", &[(Want::Number(CAP), 0)]),
-        (
-            b"999999999999999999",
-            &[(Want::Number(999_999_999_999_999_999), 0)],
-        ),
         (b"'emp", &[(Want::Quoted(b"emp"), 0)]),
         (b"'-", &[(Want::Quoted(b"-"), 0)]),
         (
@@ -132,7 +113,37 @@ fn words_and_numbers(rt: HostRuntime) {
 }
 
 #[test]
-fn marks(rt: HostRuntime) {
+fn numbers(rt: HostRuntime) {
+    let alloc = rt.alloc();
+    let minus = Want::Mark(Mark::Minus);
+    let known: [(&[u8], &[(Want, usize)]); 9] = [
+        (b"1a", &[(Want::Number(1), 0), (Want::Name(b"a"), 1)]),
+        (b"12_3", &[(Want::Number(12), 0), (Want::Name(b"_3"), 2)]),
+        (b"0", &[(Want::Number(0), 0)]),
+        (b"007", &[(Want::Number(7), 0)]),
+        (
+            b"1.5",
+            &[
+                (Want::Number(1), 0),
+                (Want::Mark(Mark::Dot), 1),
+                (Want::Number(5), 2),
+            ],
+        ),
+        (b"-3", &[(minus, 0), (Want::Number(3), 1)]),
+        (b"1000000000000000000", &[(Want::Number(CAP), 0)]),
+        (b"0000000001000000000000000000", &[(Want::Number(CAP), 0)]),
+        (
+            b"999999999999999999",
+            &[(Want::Number(999_999_999_999_999_999), 0)],
+        ),
+    ];
+    for (text, wanted) in known {
+        has_tokens(&rt, alloc, text, wanted);
+    }
+}
+
+#[test]
+fn the_longest_mark(rt: HostRuntime) {
     let alloc = rt.alloc();
     let (assign, arrow, equal) = (
         Want::Mark(Mark::Assign),
@@ -167,6 +178,10 @@ fn marks(rt: HostRuntime) {
     for (text, wanted) in known {
         has_tokens(&rt, alloc, text, wanted);
     }
+}
+
+#[test]
+fn each_mark(rt: HostRuntime) {
     let all = [
         (Want::Mark(Mark::Assign), 0),
         (Want::Mark(Mark::OpenBrace), 1),
@@ -194,7 +209,7 @@ fn marks(rt: HostRuntime) {
         (Want::Mark(Mark::Greater), 30),
         (Want::Mark(Mark::Less), 31),
     ];
-    has_tokens(&rt, alloc, b"={}[](),;:.?+-*/=>==!=<=>=&&||><", &all);
+    has_tokens(&rt, rt.alloc(), b"={}[](),;:.?+-*/=>==!=<=>=&&||><", &all);
 }
 
 #[test]

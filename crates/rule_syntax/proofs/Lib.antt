@@ -1,0 +1,12 @@
+pub mod Opening
+pub mod TokenLaws
+pub mod ListLaws
+pub mod PartLists
+pub mod Rows
+pub mod SeenLaws
+pub mod ExprLevels
+pub mod ExprLaws
+pub mod PartLaws
+pub mod SideLaws
+pub mod RulesLaws
+pub mod QueryLaws

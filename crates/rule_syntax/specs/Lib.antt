@@ -1,0 +1,14 @@
+pub mod DistinctQueries
+pub mod DistinctRules
+pub mod Levels
+pub mod Reading
+pub mod ReadingExpr
+pub mod ReadingParts
+pub mod ReadingQuery
+pub mod ReadingRules
+pub mod ReadingSides
+pub mod Seen
+pub mod SeenRules
+pub mod Spelled
+pub mod Syntax
+pub mod Tokens

@@ -1,0 +1,9 @@
+// Laws of the syntax that no reader states alone.
+ghost use Rattle.rule_syntax.specs.DistinctQueries.{DistinctQueries};
+ghost use Rattle.rule_syntax.specs.DistinctRules.{DistinctRules};
+
+/// No two rule sets, and no two queries, that the grammar spells have the same tokens.
+pub fn spelling_laws()
+    ensures rules { DistinctRules }
+    ensures queries { DistinctQueries }
+{}

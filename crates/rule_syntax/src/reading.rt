@@ -1,0 +1,25 @@
+// The readers: functions from the tokens that are left to what they begin with and the tokens
+// behind it.
+mod expr;
+mod parts;
+mod query;
+mod rules;
+mod sections;
+mod settings;
+mod sides;
+mod stop;
+mod tokens;
+
+pub use query::read_query;
+pub use rules::read_rules;
+
+#[cfg(test)]
+mod test_tokens;
+#[cfg(test)]
+mod tests;
+#[cfg(test)]
+mod tests_query;
+#[cfg(test)]
+mod tests_rules;
+#[cfg(test)]
+mod tests_sides;
