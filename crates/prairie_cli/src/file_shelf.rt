@@ -1,4 +1,4 @@
-ghost use Rattle.std.specs.Prelude.{None, false, ◌≤◌, IfOk, vec_len};
+ghost use Rattle.std.specs.Prelude.{◌≡◌, None, false, ◌≤◌, IfOk, vec_len};
 
 use pr_outside::{Bytes, FetchError, Name, Shelf};
 use pr_value::Memory;
@@ -20,7 +20,9 @@ pub struct FileShelf<'a, R> {
 
 impl<'a, R: Files> FileShelf<'a, R> {
     /// No fetch has failed yet.
-    pub fn new(rt: &'a R) -> FileShelf<'a, R> {
+    pub fn new(rt: &'a R) -> FileShelf<'a, R>
+        ensures { result.faults ≡ 0 }
+    {
         FileShelf {
             rt,
             faults: 0,
@@ -62,6 +64,10 @@ enum ReadError {
 }
 
 impl From<Memory> for ReadError {
+    ghost use Rattle.prairie_cli.specs.declared.file_shelf.ReadError.TheVariants as errors;
+
+    ghost from_gives = { λ _ e. e ≡ errors.Memory };
+
     fn from(_error: Memory) -> ReadError {
         ReadError::Memory
     }

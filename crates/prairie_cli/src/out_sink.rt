@@ -1,4 +1,4 @@
-ghost use Rattle.std.specs.Prelude.{None};
+ghost use Rattle.std.specs.Prelude.{◌≡◌, None};
 
 use pr_outside::{PutError, Sink};
 use std::alloc::Global;
@@ -14,7 +14,9 @@ pub struct OutSink<'a, R> {
 
 impl<'a, R: Print> OutSink<'a, R> {
     /// No put has failed yet.
-    pub fn new(rt: &'a R) -> OutSink<'a, R> {
+    pub fn new(rt: &'a R) -> OutSink<'a, R>
+        ensures { result.faults ≡ 0 }
+    {
         OutSink { rt, faults: 0 }
     }
 }
