@@ -1,5 +1,5 @@
-ghost use Rattle.std.specs.Prelude.{◌≡◌, ◌≤◌};
-ghost use Rattle.pr_value.specs.Capped.{capped_add};
+ghost use Rattle.std.specs.Prelude.{◌≡◌, ◌+◌, ◌^◌, ◌<◌, ◌≤◌};
+ghost use Rattle.pr_value.specs.Capped.{capped_add, capped_sub, capped_mul, capped_div, log2};
 
 /// The largest number and the largest cost, 10^18.
 pub const CAP: u64 = 1_000_000_000_000_000_000;
@@ -11,4 +11,43 @@ pub fn cap_add(a: u64, b: u64) -> u64
     ensures { result ≡ capped_add a b }
 {
     (a + b).min(CAP)
+}
+
+/// The difference, or 0 where it would be less.
+pub fn cap_sub(a: u64, b: u64) -> u64
+    requires left { a ≤ CAP }
+    requires right { b ≤ CAP }
+    ensures { result ≡ capped_sub a b }
+{
+    a.saturating_sub(b)
+}
+
+/// The product, or `CAP` where it would be more.
+pub fn cap_mul(a: u64, b: u64) -> u64
+    requires left { a ≤ CAP }
+    requires right { b ≤ CAP }
+    ensures { result ≡ capped_mul a b }
+{
+    a.saturating_mul(b).min(CAP)
+}
+
+/// The quotient, rounded down, or `CAP` where the divisor is 0.
+pub fn cap_div(a: u64, b: u64) -> u64
+    requires left { a ≤ CAP }
+    requires right { b ≤ CAP }
+    ensures value { result ≡ capped_div a b }
+    ensures within { result ≤ CAP }
+{
+    if b == 0 { CAP } else { a / b }
+}
+
+/// The greatest n with `2^n <= a`, or 0 where `a` is 0.
+pub fn cap_log2(a: u64) -> u64
+    requires { a ≤ CAP }
+    ensures value { result ≡ log2 a }
+    ensures within { result < 60 }
+    ensures power_le { 0 < a → 2 ^ result ≤ a }
+    ensures next_power_gt { 0 < a → a < 2 ^ (result + 1) }
+{
+    if a == 0 { 0 } else { u64::from(a.ilog2()) }
 }

@@ -1,22 +1,43 @@
-//! Numbers up to a cap, symbols, and the tokens of a text.
+//! Numbers up to a cap, symbols, sets and lists of them, values, and the tokens of a text.
 #![tactic(auto)]
 
 mod capped;
+mod halves;
 mod kind;
 mod memory;
+mod printing;
+mod sym_list;
+mod sym_set;
 mod symbol;
+mod symbol_order;
+mod symbols;
 mod text;
 mod token;
+mod token_text;
 mod tokens;
+mod value;
 
-pub use capped::{CAP, cap_add};
+pub use capped::{CAP, cap_add, cap_div, cap_log2, cap_mul, cap_sub};
+pub use halves::bisect;
 pub use kind::Kind;
 pub use memory::Memory;
 pub use sqlite_items::{Boxed, Items};
+pub use sym_list::SymList;
+pub use sym_set::SymSet;
 pub use symbol::{Symbol, SymbolError, is_digit, is_letter, is_word_byte};
 pub use text::Text;
 pub use token::{Mark, Token};
+pub use token_text::push_token;
 pub use tokens::Tokens;
+pub use value::Value;
 
 #[cfg(test)]
+mod fixtures;
+#[cfg(test)]
+mod number_tests;
+#[cfg(test)]
+mod set_tests;
+#[cfg(test)]
 mod tests;
+#[cfg(test)]
+mod value_tests;

@@ -1,7 +1,6 @@
 -- The reader of expressions reads what is spelled, and nothing else.
-use Rattle.std.proofs.Common.{map, ◌≡◌, ℕ, zero, suc, ◌≤◌, Bool, true, false, cond, List, [], ◌∷◌, ◌++◌, length, Option, Some, None, refl, sym, ap, ◌∙◌, subst, arith, append_assoc}
+use Rattle.std.proofs.Common.{map, ◌≡◌, ℕ, zero, suc, ◌≤◌, Bool, true, false, cond, List, ◌∷◌, ◌++◌, length, Option, Some, None, refl, sym, ap, ◌∙◌, subst, arith, append_assoc}
 use Rattle.std.specs.Prelude.{◌&&◌, nat_le, codes}
-use Rattle.std.specs.List.{list_all}
 use Rattle.pr_value.specs.Capped.{cap}
 use Rattle.pr_value.specs.Symbols.{Symbol, is_symbol}
 use Rattle.pr_value.specs.declared.token.Token.TheVariants as token
@@ -16,8 +15,8 @@ use Rattle.rule_syntax.specs.Syntax as syntax
 use Rattle.rule_syntax.specs.Seen.{exprs_of}
 use Rattle.rule_syntax.specs.Tokens.{Text, m, commas, expr_tokens, exprs_tokens, binop_mark, truth_name, fold_name}
 use Rattle.rule_syntax.specs.Spelled.{is_free, spells_expr, spells_exprs}
-use Rattle.rule_syntax.specs.Levels.{levels, list_levels, most}
-use Rattle.rule_syntax.specs.Reading.{◌>>=◌, Reader, same_mark, mark_at, word_at, name_at, binop_at, truth_of, fold_of, closed_at}
+use Rattle.rule_syntax.specs.Levels.{levels, list_levels}
+use Rattle.rule_syntax.specs.Reading.{◌>>=◌, Reader, same_mark, mark_at, truth_of, fold_of, closed_at}
 use Rattle.rule_syntax.specs.ReadingExpr.{named_at, folded_at, binary_at, word_expr, level_at, expr_at}
 use Rattle.rule_syntax.proofs.TokenLaws.{on_some, some_same, guard_some, both_true, and_true, mark_sound, word_sound, name_sound, name_complete, binop_sound, binop_complete, truth_named, fold_named, free_no_truth, free_no_fold}
 use Rattle.rule_syntax.proofs.ListLaws.{Sound, Complete, Every, Good, Closes, closed_sound, closed_complete, good_every, every_spelled, every_shallow}

@@ -4,6 +4,7 @@ pub mod ListLaws
 pub mod PartLists
 pub mod Rows
 pub mod SeenLaws
+pub mod PrintLaws
 pub mod ExprLevels
 pub mod ExprLaws
 pub mod PartLaws

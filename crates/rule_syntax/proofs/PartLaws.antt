@@ -1,5 +1,5 @@
 -- The readers of statements and declarations read what is spelled, and nothing else.
-use Rattle.std.proofs.Common.{map, ◌≡◌, ℕ, ◌≤◌, Bool, true, false, List, [], ◌∷◌, ◌++◌, length, Option, Some, None, refl, sym, ap, ◌∙◌, subst, arith, append_assoc}
+use Rattle.std.proofs.Common.{map, ◌≡◌, ℕ, ◌≤◌, true, List, ◌∷◌, ◌++◌, length, Some, refl, sym, ap, ◌∙◌, subst, arith, append_assoc}
 use Rattle.std.specs.Prelude.{⊤, ◌&&◌, nat_le, flat_map, codes}
 use Rattle.std.specs.List.{list_all}
 use Rattle.pr_value.specs.Capped.{cap}
@@ -13,10 +13,9 @@ use Rattle.rule_syntax.specs.declared.parts.Param.{Param}
 use Rattle.rule_syntax.specs.Syntax.{Expr, Stmt, set, copy, Body, Operator, Helper}
 use Rattle.rule_syntax.specs.Tokens.{Text, m, name, commas, kind_name, expr_tokens, stmt_tokens, block, body_tokens, property_tokens, operator_tokens, algorithm_tokens, param_tokens, helper_tokens}
 use Rattle.rule_syntax.specs.Spelled.{is_free, has_some, spells_expr, spells_stmt, spells_body, spells_property, spells_operator, spells_algorithm, spells_param, spells_helper}
-use Rattle.rule_syntax.specs.Levels.{levels, most, stmt_levels, body_levels, operator_levels, helper_levels}
-use Rattle.rule_syntax.specs.Reading.{◌>>=◌, mark_at, unmarked, word_at, name_at, number_at, kind_at, filled_at, closed_at, many_at}
-use Rattle.rule_syntax.specs.ReadingExpr.{expr_at}
-use Rattle.rule_syntax.specs.ReadingParts.{changed_at, stmt_at, stmts_at, block_at, body_at, property_at, operator_at, algorithm_at, param_at, helper_at}
+use Rattle.rule_syntax.specs.Levels.{most, stmt_levels, body_levels, operator_levels, helper_levels}
+use Rattle.rule_syntax.specs.Reading.{unmarked, name_at}
+use Rattle.rule_syntax.specs.ReadingParts.{changed_at, stmt_at, block_at, body_at, property_at, operator_at, algorithm_at, param_at, helper_at}
 use Rattle.rule_syntax.proofs.TokenLaws.{on_some, some_same, both_true, and_true, mark_sound, word_sound, name_sound, name_complete, number_sound, number_complete, kind_sound, kind_complete}
 use Rattle.rule_syntax.proofs.ListLaws.{Sound, Complete, Every, Good, Closes, filled_sound, filled_complete, closed_sound, closed_complete, many_sound, many_complete, many_length, all_every, every_all, good_every, every_spelled, every_shallow}
 use Rattle.rule_syntax.proofs.ExprLaws.{GoodExpr, step, expr_sound, expr_complete}

@@ -1,5 +1,5 @@
 -- The reader of a rule set reads what is spelled, and nothing else.
-use Rattle.std.proofs.Common.{map, ◌≡◌, ℕ, ◌≤◌, Bool, true, false, List, [], ◌∷◌, ◌++◌, length, Option, Some, None, refl, sym, ap, ◌∙◌, subst, arith, append_assoc, append-nil}
+use Rattle.std.proofs.Common.{◌≡◌, ℕ, ◌≤◌, Bool, true, false, List, [], ◌∷◌, ◌++◌, length, Some, refl, sym, ap, ◌∙◌, subst, arith, append_assoc, append-nil}
 use Rattle.std.specs.Prelude.{max, ◌&&◌, flat_map, codes}
 use Rattle.std.specs.Str.{bytes_eq}
 use Rattle.std.specs.List.{list_all}
@@ -15,10 +15,9 @@ use Rattle.rule_syntax.specs.declared.sides.ImplSide.{ImplSide}
 use Rattle.rule_syntax.specs.Syntax.{LeftLabel, RightLabel, Body, Operator, Helper, TRule, IRule, Rules}
 use Rattle.rule_syntax.specs.Tokens.{Text, m, name, left_tokens, right_tokens, impl_tokens, body_tokens, property_tokens, operator_tokens, algorithm_tokens, helper_tokens, trule_tokens, irule_tokens, tokens_of}
 use Rattle.rule_syntax.specs.Spelled.{is_free, spells_left, spells_right, spells_impl, spells_body, spells_property, spells_operator, spells_algorithm, spells_helper, spells_trule, spells_irule, spells}
-use Rattle.rule_syntax.specs.Levels.{most, most_levels, left_levels, right_levels, body_levels, operator_levels, helper_levels, trule_levels, irule_levels, rules_levels, IsRules}
-use Rattle.rule_syntax.specs.Reading.{◌>>=◌, Reader, mark_at, begins, word_at, name_at, many_at, alone}
-use Rattle.rule_syntax.specs.ReadingParts.{body_at, section_at, property_at, operator_at, algorithm_at, helper_at}
-use Rattle.rule_syntax.specs.ReadingSides.{left_at, right_at, impl_at}
+use Rattle.rule_syntax.specs.Levels.{most_levels, left_levels, right_levels, operator_levels, helper_levels, trule_levels, irule_levels, rules_levels, IsRules}
+use Rattle.rule_syntax.specs.Reading.{Reader, begins}
+use Rattle.rule_syntax.specs.ReadingParts.{section_at, property_at, operator_at, algorithm_at, helper_at}
 use Rattle.rule_syntax.specs.ReadingRules.{trule_at, irule_at, sections_at, rules_at}
 use Rattle.rule_syntax.specs.DistinctRules.{DistinctRules}
 use Rattle.rule_syntax.proofs.TokenLaws.{on_some, some_same, guard_some, both_true, and_true, mark_sound, word_sound, name_sound, name_complete}

@@ -9,6 +9,7 @@ pub mod ReadingRules
 pub mod ReadingSides
 pub mod Seen
 pub mod SeenRules
+pub mod Spaced
 pub mod Spelled
 pub mod Syntax
 pub mod Tokens

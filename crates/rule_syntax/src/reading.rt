@@ -14,7 +14,7 @@ pub use query::read_query;
 pub use rules::read_rules;
 
 #[cfg(test)]
-mod test_tokens;
+pub(crate) mod test_tokens;
 #[cfg(test)]
 mod tests;
 #[cfg(test)]

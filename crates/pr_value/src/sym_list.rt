@@ -1,0 +1,72 @@
+ghost use Rattle.std.specs.Prelude.{◌≡◌, ◌<◌, [], ◌∷◌, ◌++◌, Some, length, slice_get, IfOk, OnOk, OnErr};
+
+use crate::memory::Memory;
+use crate::symbol::Symbol;
+use crate::symbols::copy_symbols;
+use std::alloc::Global;
+use std::marker::Model;
+
+/// A list of symbols.
+#[derive(Debug, Drop)]
+pub struct SymList {
+    symbols: Vec<Symbol>,
+}
+
+impl Model for SymList {
+    ghost use Rattle.std.specs.Prelude.{List, ℕ};
+    ghost use Rattle.std.specs.Coded.{coded_list, coded_ℕ};
+
+    ghost Value = { List (List ℕ) };
+
+    ghost coded = { coded_list (coded_list coded_ℕ) };
+
+    ghost view = { λ l. l.symbols.items };
+}
+
+impl SymList {
+    /// An empty list, which takes no memory yet.
+    pub fn new(alloc: Global) -> SymList
+        ensures { result ≡ [] }
+    {
+        SymList {
+            symbols: Vec::new(alloc),
+        }
+    }
+
+    /// Appends a symbol.
+    pub fn push(&mut self, s: Symbol) -> Result<(), Memory>
+        ensures ok { OnOk result (self.new ≡ self.old ++ s ∷ []) }
+        ensures err { OnErr result (self.new ≡ self.old) }
+    {
+        self.symbols.push(s)?;
+        Ok(())
+    }
+
+    pub fn count(&self) -> usize
+        ensures { result ≡ length self.now }
+    {
+        self.symbols.len()
+    }
+
+    /// The symbol at a place, from 0.
+    pub fn at(&self, i: usize) -> &Symbol
+        requires { i < length self.now }
+        ensures { slice_get self.now i ≡ Some result.now }
+    {
+        &self.symbols[i]
+    }
+
+    pub fn as_slice(&self) -> &[Symbol]
+        ensures { result.now ≡ self.now }
+    {
+        self.symbols.as_slice()
+    }
+
+    /// An equal list.
+    pub fn copy(&self, alloc: Global) -> Result<SymList, Memory>
+        ensures { IfOk result (λ l. l ≡ self.now) }
+    {
+        let symbols = copy_symbols(alloc, self.symbols.as_slice())?;
+        Ok(SymList { symbols })
+    }
+}

@@ -1,0 +1,150 @@
+ghost use Rattle.std.specs.Prelude.{◌≡◌, ◌<◌, ◌≤◌, [], ◌∷◌, ◌++◌, true, false, Some, length, take, drop, slice_get, IfOk, IfErr, OnOk, OnErr};
+ghost use Rattle.pr_value.specs.SymbolSets.{ascends, contains, insert, union, meet, minus, subset};
+
+use crate::memory::Memory;
+use crate::symbol::Symbol;
+use crate::symbols::copy_symbols;
+use std::alloc::Global;
+use std::marker::Model;
+
+/// A set of symbols, which contracts see as the list of its members, ascending by bytes.
+#[derive(Debug, Drop)]
+pub struct SymSet {
+    members: Vec<Symbol>,
+}
+
+impl Model for SymSet {
+    ghost use Rattle.std.specs.Prelude.{◌≡◌, List, ℕ, true};
+    ghost use Rattle.std.specs.Coded.{coded_list, coded_ℕ};
+    ghost use Rattle.pr_value.specs.SymbolSets.{ascends};
+
+    ghost Value = { List (List ℕ) };
+
+    ghost coded = { coded_list (coded_list coded_ℕ) };
+
+    ghost view = { λ s. s.members.items };
+
+    ghost invariant = { λ s. ascends s.members.items ≡ true };
+}
+
+// Where the symbol stands among members that ascend, or where it would.
+fn place_of(members: &[Symbol], s: &Symbol) -> Result<usize, usize>
+    requires { ascends members.now ≡ true }
+    ensures found { IfOk result (λ _. contains members.now s.now ≡ true) }
+    ensures missing { IfErr result (λ i. (i ≤ length members.now)
+        × (contains members.now s.now ≡ false)
+        × (insert s.now members.now ≡ take i members.now ++ s.now ∷ drop i members.now)) }
+{
+    members.binary_search(s)
+}
+
+#[tactic(auto, using(crate::proofs::SetLaws::set_laws))]
+impl SymSet {
+    /// The empty set, which takes no memory yet.
+    pub fn new(alloc: Global) -> SymSet
+        ensures { result ≡ [] }
+    {
+        SymSet {
+            members: Vec::new(alloc),
+        }
+    }
+
+    /// Puts a symbol into the set. The set is unchanged after an error.
+    pub fn insert(&mut self, s: Symbol) -> Result<(), Memory>
+        ensures ok { OnOk result (self.new ≡ insert s self.old) }
+        ensures err { OnErr result (self.new ≡ self.old) }
+    {
+        match place_of(self.members.as_slice(), &s) {
+            Ok(_) => Ok(()),
+            Err(place) => {
+                self.members.insert(place, s)?;
+                Ok(())
+            }
+        }
+    }
+
+    /// The members of either set.
+    pub fn union(&self, alloc: Global, other: &SymSet) -> Result<SymSet, Memory>
+        ensures { IfOk result (λ s. s ≡ union self.now other.now) }
+    {
+        let mut all = other.copy(alloc)?;
+        let mut rest = self.members.as_slice();
+        while let Some((member, before)) = rest.split_last() {
+            all.insert(member.copy(alloc)?)?;
+            rest = before;
+        }
+        Ok(all)
+    }
+
+    /// The members of this set that are none of the other.
+    pub fn minus(&self, alloc: Global, other: &SymSet) -> Result<SymSet, Memory>
+        ensures { IfOk result (λ s. s ≡ minus self.now other.now) }
+    {
+        let mut members = Vec::new(alloc);
+        for member in self.as_slice() {
+            if !other.contains(member) {
+                members.push(member.copy(alloc)?)?;
+            }
+        }
+        Ok(SymSet { members })
+    }
+
+    /// The members of both sets.
+    pub fn meet(&self, alloc: Global, other: &SymSet) -> Result<SymSet, Memory>
+        ensures { IfOk result (λ s. s ≡ meet self.now other.now) }
+    {
+        let mut members = Vec::new(alloc);
+        for member in self.as_slice() {
+            if other.contains(member) {
+                members.push(member.copy(alloc)?)?;
+            }
+        }
+        Ok(SymSet { members })
+    }
+
+    /// Whether the symbol is a member.
+    pub fn contains(&self, s: &Symbol) -> bool
+        ensures { result ≡ contains self.now s.now }
+    {
+        place_of(self.members.as_slice(), s).is_ok()
+    }
+
+    /// Whether each member is one of the other set.
+    pub fn subset(&self, other: &SymSet) -> bool
+        ensures { result ≡ subset self.now other.now }
+    {
+        self.members.iter().all(|member| other.contains(member))
+    }
+
+    /// How many members there are.
+    pub fn len(&self) -> usize
+        ensures count { result ≡ length self.now }
+        ensures ascending { ascends self.now ≡ true }
+    {
+        self.members.len()
+    }
+
+    /// The member at a place in the ascending order, from 0.
+    pub fn at(&self, i: usize) -> &Symbol
+        requires { i < length self.now }
+        ensures { slice_get self.now i ≡ Some result.now }
+    {
+        &self.members[i]
+    }
+
+    /// The members, ascending.
+    pub fn as_slice(&self) -> &[Symbol]
+        ensures same { result.now ≡ self.now }
+        ensures ascending { ascends self.now ≡ true }
+    {
+        self.members.as_slice()
+    }
+
+    /// An equal set.
+    pub fn copy(&self, alloc: Global) -> Result<SymSet, Memory>
+        ensures { IfOk result (λ s. s ≡ self.now) }
+    {
+        let members = copy_symbols(alloc, self.members.as_slice())?;
+        Ok(SymSet { members })
+    }
+}

@@ -1,0 +1,14 @@
+// The printer: functions that put the tokens of a part behind the tokens so far, and one that
+// writes the tokens with blanks between.
+mod expr;
+mod parts;
+mod rules;
+mod sections;
+mod sides;
+mod spaced;
+mod tokens;
+
+pub use rules::print_rules;
+
+#[cfg(test)]
+mod tests;
