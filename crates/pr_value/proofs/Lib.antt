@@ -5,6 +5,8 @@ pub mod OrderLaws
 pub mod SearchLaws
 pub mod SetLaws
 mod SetRows
+pub mod SortLaws
 mod TextRows
 pub mod TreeLaws
+pub mod ValueLaws
 pub mod ZipLaws

@@ -20,7 +20,7 @@ or_assoc : (p q r : Bool) → (p || (q || r)) ≡ ((p || q) || r)
 or_assoc true q r = refl
 or_assoc false q r = refl
 
-or_twice : (p q : Bool) → (p || q) ≡ (p || (p || q))
+pub or_twice : (p q : Bool) → (p || q) ≡ (p || (p || q))
 or_twice true q = refl
 or_twice false q = refl
 

@@ -1,5 +1,5 @@
 -- What a binary search finds in symbols that ascend.
-use Rattle.std.proofs.Common.{◌≡◌, ℕ, zero, suc, ◌<◌, ◌≤◌, true, false, List, [], ◌∷◌, ◌++◌, length, get_or, take, drop, Result, Ok, Err, IfOk, IfErr, inl, inr, refl, ap, ◌∙◌, add-one, arith}
+use Rattle.std.proofs.Common.{◌≡◌, ℕ, zero, suc, ◌<◌, ◌≤◌, true, false, List, [], ◌∷◌, ◌++◌, length, slice_get, get_or, take, drop, Some, Result, Ok, Err, IfOk, IfErr, inl, inr, refl, ap, sym, ◌∙◌, add-one, arith}
 use Rattle.std.specs.declared.cmp.Ordering.TheVariants.{Less, Equal, Greater}
 use Rattle.std.specs.Cmp.Lexicographic.{nat_list_cmp_total}
 use Rattle.std.specs.List.{HoldsAt, list_any}
@@ -9,10 +9,11 @@ use Rattle.std.specs.Str.{bytes_eq}
 use Rattle.std.proofs.lemmas.List.Folds.{list_any_at}
 use Rattle.std.proofs.lemmas.List.Recursion.{or_from_places}
 use Rattle.std.proofs.lemmas.List.Sorted.{searchable_from_sorted}
+use Rattle.std.proofs.lemmas.Option.{slice_get_read}
 use Rattle.std.proofs.lemmas.Bool.{cases_lt}
 use Rattle.pr_value.specs.Symbols.{Symbol}
 use Rattle.pr_value.specs.SymbolSets.{compare_symbols, is_before, ascends, contains, insert}
-use Rattle.pr_value.proofs.OrderLaws.{compare_symbols-reversed, bytes_eq-compare_symbols, not_after}
+use Rattle.pr_value.proofs.OrderLaws.{compare_symbols-reversed, same_from_compare_symbols, bytes_eq-compare_symbols, not_after}
 use Rattle.pr_value.proofs.SetLaws.{ascends-first, ascends-rest}
 
 in_order : (ss : List Symbol) (k : ℕ) (d : Symbol) → ascends ss ≡ true → suc k < length ss → is_before (get_or ss (suc k) d) (get_or ss k d) ≡ false
@@ -50,10 +51,18 @@ insert_at (t ∷ ts) s (suc i) within parts =
     ap (λ o. match_ordering o (s ∷ t ∷ ts) (t ∷ ts) (t ∷ insert s ts)) below
     ∙ ap (λ us. t ∷ us) (insert_at ts s i (omega (arith, within)) (λ k d from to. parts.0 (suc k) d (omega arith) (omega (arith, to)), λ k d from to. parts.1 (suc k) d (omega (arith, from)) (omega (arith, to))))
 
+-- the symbol stands where one is that compares equal
+stands_at : (ss : List Symbol) (s : Symbol) (i : ℕ) → i < length ss → HoldsAt (λ y. compare_symbols y s ≡ Equal) ss i → slice_get ss i ≡ Some s
+stands_at ss s i within found = slice_get_read ss (length ss) i s refl within (sym (same_from_compare_symbols (get_or ss i s) s (found s)))
+
 -- the same, of what a search answers
-pub found : (ss : List Symbol) (s : Symbol) (r : Result ℕ ℕ) → IsSearchInRange r (length ss) → IsBinarySearchResult (λ y. compare_symbols y s) ss r → IfOk r (λ _. contains ss s ≡ true)
-found ss s (Ok i) within at = contains_at ss s i within at
+pub found : (ss : List Symbol) (s : Symbol) (r : Result ℕ ℕ) → IsSearchInRange r (length ss) → IsBinarySearchResult (λ y. compare_symbols y s) ss r → IfOk r (λ i. slice_get ss i ≡ Some s)
+found ss s (Ok i) within at = stands_at ss s i within at
 found ss s (Err i) within at = tt
+
+pub contained : (ss : List Symbol) (s : Symbol) (r : Result ℕ ℕ) → IsSearchInRange r (length ss) → IsBinarySearchResult (λ y. compare_symbols y s) ss r → IfOk r (λ _. contains ss s ≡ true)
+contained ss s (Ok i) within at = contains_at ss s i within at
+contained ss s (Err i) within at = tt
 
 pub missing : (ss : List Symbol) (s : Symbol) (r : Result ℕ ℕ) → ascends ss ≡ true → IsSearchInRange r (length ss) → IsBinarySearchResult (λ y. compare_symbols y s) ss r
     → IfErr r (λ i. (i ≤ length ss) × (contains ss s ≡ false) × (insert s ss ≡ take i ss ++ s ∷ drop i ss))

@@ -1,4 +1,4 @@
--- Lists of symbols that ascend, and what an insertion, a union and a filter make of them.
+-- Lists of symbols that ascend, and what an insertion and a filter make of them.
 use Rattle.std.proofs.Common.{◌≡◌, ℕ, ◌≤◌, Bool, true, false, cond, ◌||◌, length, take, drop, List, [], ◌∷◌, ◌++◌, refl, ap, sym, ◌∙◌}
 use Rattle.std.specs.declared.cmp.Ordering.TheVariants.{Less, Equal, Greater}
 use Rattle.std.specs.Cmp.{first_so, second_so}
@@ -8,7 +8,7 @@ use Rattle.std.specs.List.{filter}
 use Rattle.std.proofs.lemmas.Bool.{false≢true}
 use Rattle.std.proofs.lemmas.List.{take_all}
 use Rattle.pr_value.specs.Symbols.{Symbol}
-use Rattle.pr_value.specs.SymbolSets.{compare_symbols, is_before, ascends, contains, insert, union}
+use Rattle.pr_value.specs.SymbolSets.{compare_symbols, is_before, ascends, contains, insert}
 use Rattle.pr_value.proofs.OrderLaws.{compare_symbols-reversed, compare_symbols-before, before_trans, bytes_eq-compare_symbols}
 
 -- the first is before the second, and the rest ascends
@@ -61,12 +61,6 @@ insert-member s (t ∷ ts) up found =
       | Greater ↦ λ e. ap (λ us. t ∷ us) (insert-member s ts (ascends-rest t ts up) (sym (ap (λ b. b || contains ts s) (bytes_eq-compare_symbols s t Less (compare_symbols-reversed s t Greater e))) ∙ found))
     ] refl
 
--- ---- union
-
-pub union-push : (ss : List Symbol) (s : Symbol) (ts : List Symbol) → union (ss ++ s ∷ []) ts ≡ union ss (insert s ts)
-union-push [] s ts = refl
-union-push (t ∷ ss) s ts = ap (insert t) (union-push ss s ts)
-
 -- ---- filter
 
 filter-below : (p : Symbol → Bool) (s : Symbol) (ss : List Symbol) → ascends (s ∷ ss) ≡ true → ascends (s ∷ filter p ss) ≡ true
@@ -95,8 +89,4 @@ ascends-inserted ss new s i false up at is = ap ascends is ∙ up
 pub ascends-filtered : (p : Symbol → Bool) (ss kept : List Symbol) (n : ℕ) → ascends ss ≡ true → length ss ≤ n → kept ≡ filter p (take n ss) → ascends kept ≡ true
 ascends-filtered p ss kept n up all is = ap ascends (is ∙ ap (filter p) (take_all n ss all)) ∙ ascends-filter p ss up
 
--- the last of those left goes into what is made
-pub union-last : (left before all : List Symbol) (s : Symbol) (made : List Symbol) → left ≡ before ++ s ∷ [] → union left all ≡ made → union before (insert s all) ≡ made
-union-last left before all s made cut is = sym (union-push before s all) ∙ ap (λ ss. union ss all) (sym cut) ∙ is
-
-pub ruleset set_laws = (ascends-inserted, ascends-filtered, insert-member, union-last)
+pub ruleset set_laws = (ascends-inserted, ascends-filtered, insert-member)

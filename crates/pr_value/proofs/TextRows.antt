@@ -1,10 +1,11 @@
 -- Small values, and the texts of values and tokens.
-use Rattle.std.proofs.Common.{◌≡◌, true, false, [], ◌∷◌, refl}
+use Rattle.std.proofs.Common.{◌≡◌, ◌+◌, true, false, [], ◌∷◌, refl}
 use Rattle.std.specs.Fmt.{digits}
 use Rattle.std.specs.Prelude.{codes}
+use Rattle.pr_value.specs.Capped.{cap}
 use Rattle.pr_value.specs.Symbols.{dash}
 use Rattle.pr_value.specs.TokenTexts.{token_text}
-use Rattle.pr_value.specs.Values.{default_of, has_kind, same_value, number_in, members_in, value_text}
+use Rattle.pr_value.specs.Values.{default_of, has_kind, is_capped, is_default, same_value, number_in, members_in, value_text}
 use Rattle.pr_value.specs.declared.kind.Kind.TheVariants as kind
 use Rattle.pr_value.specs.declared.token.Mark.TheVariants as mark
 use Rattle.pr_value.specs.declared.token.Token.TheVariants as token
@@ -37,6 +38,42 @@ text-empty_list = refl
 
 same-kinds : same_value (value.Set []) (value.List []) ≡ false
 same-kinds = refl
+
+number-at_cap : has_kind kind.Num (value.Num cap) ≡ true
+number-at_cap = refl
+
+number-past_cap : has_kind kind.Num (value.Num (cap + 1)) ≡ false
+number-past_cap = refl
+
+cost-past_cap : has_kind kind.Cost (value.Num (cap + 1)) ≡ false
+cost-past_cap = refl
+
+number-other_kind : has_kind kind.Truth (value.Num 0) ≡ false
+number-other_kind = refl
+
+list-set_kind : has_kind kind.Set (value.List []) ≡ false
+list-set_kind = refl
+
+capped-past : is_capped (value.Num (cap + 1)) ≡ false
+capped-past = refl
+
+default-one : is_default (value.Num 1) ≡ false
+default-one = refl
+
+default-true : is_default (value.Truth true) ≡ false
+default-true = refl
+
+default-dash : is_default (value.Sym dash) ≡ true
+default-dash = refl
+
+default-name : is_default (value.Sym (codes "emp")) ≡ false
+default-name = refl
+
+default-empty : is_default (value.List []) ≡ true
+default-empty = refl
+
+default-member : is_default (value.Set (codes "a" ∷ [])) ≡ false
+default-member = refl
 
 default-cost : has_kind kind.Cost (default_of kind.Cost) ≡ true
 default-cost = refl

@@ -22,3 +22,12 @@ pub fn list(alloc: Global, names: &str) -> Result<SymList, Fail> {
     }
     Ok(made)
 }
+
+/// The names, in the order in which they are given.
+pub fn names_in(alloc: Global, names: &str) -> Result<Vec<Symbol>, Fail> {
+    let mut made = Vec::new(alloc);
+    for name in names.split_whitespace() {
+        made.push(symbol(alloc, name)?)?;
+    }
+    Ok(made)
+}

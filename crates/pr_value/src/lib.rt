@@ -24,7 +24,7 @@ pub use memory::Memory;
 pub use sqlite_items::{Boxed, Items};
 pub use sym_list::SymList;
 pub use sym_set::SymSet;
-pub use symbol::{Symbol, SymbolError, is_digit, is_letter, is_word_byte};
+pub use symbol::{Symbol, SymbolError, is_digit, is_letter, is_name, is_word_byte};
 pub use text::Text;
 pub use token::{Mark, Token};
 pub use token_text::push_token;

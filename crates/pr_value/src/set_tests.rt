@@ -1,5 +1,5 @@
-use crate::fixtures::{list, set, symbol};
-use crate::{Memory, SymSet, Text, Value};
+use crate::fixtures::{list, names_in, set, symbol};
+use crate::{Memory, SymList, SymSet, Text, Value};
 use std::alloc::Global;
 use std::test::Fail;
 
@@ -27,6 +27,8 @@ fn members_ascend_in_whatever_order_they_come(rt: HostRuntime) -> Result<(), Fai
     ] {
         let made = set(alloc, names)?;
         assert!(rt; shows(alloc, &made, members)?, "{names}");
+        let at_once = SymSet::from_symbols(alloc, names_in(alloc, names)?)?;
+        assert!(rt; shows(alloc, &at_once, members)?, "{names} at once");
         for i in 0..made.len() {
             assert!(rt; made.contains(made.at(i)), "{names} lacks one");
         }
@@ -82,27 +84,29 @@ fn sets_are_met_and_taken_from_each_other(rt: HostRuntime) -> Result<(), Fail> {
 }
 
 #[test]
-fn members_are_found_at_each_place(rt: HostRuntime) -> Result<(), Fail> {
+fn members_are_found_at_their_places(rt: HostRuntime) -> Result<(), Fail> {
     let alloc = rt.alloc();
-    for (names, name, is_one) in [
-        ("", "a", false),
-        ("b", "a", false),
-        ("b", "b", true),
-        ("b", "c", false),
-        ("b d f", "b", true),
-        ("b d f", "d", true),
-        ("b d f", "f", true),
-        ("b d f", "a", false),
-        ("b d f", "c", false),
-        ("b d f", "e", false),
-        ("b d f", "g", false),
-        ("b d f", "-", false),
-        ("bb", "b", false),
+    for (names, name, place) in [
+        ("", "a", None),
+        ("b", "a", None),
+        ("b", "b", Some(0)),
+        ("b", "c", None),
+        ("b d f", "b", Some(0)),
+        ("b d f", "d", Some(1)),
+        ("b d f", "f", Some(2)),
+        ("b d f", "a", None),
+        ("b d f", "c", None),
+        ("b d f", "e", None),
+        ("b d f", "g", None),
+        ("b d f", "-", None),
+        ("bb", "b", None),
     ] {
         let made = set(alloc, names)?;
+        let wanted = symbol(alloc, name)?;
+        assert_eq!(rt; made.find(&wanted), place, "{name} in {names}");
         assert_eq!(rt;
-            made.contains(&symbol(alloc, name)?),
-            is_one,
+            made.contains(&wanted),
+            place.is_some(),
             "{name} in {names}"
         );
     }
@@ -122,5 +126,7 @@ fn lists_keep_order_and_doubles(rt: HostRuntime) -> Result<(), Fail> {
         assert_eq!(rt; copy.at(1).as_slice(), b"a".as_slice());
         assert_eq!(rt; copy.at(2).as_slice(), b"b".as_slice());
     }
+    let whole = SymList::from_symbols(names_in(alloc, "b a b")?);
+    assert!(rt; whole.as_slice() == names.as_slice());
     Ok(())
 }

@@ -33,6 +33,13 @@ impl SymList {
         }
     }
 
+    /// The list of these symbols. It takes no memory.
+    pub fn from_symbols(symbols: Vec<Symbol>) -> SymList
+        ensures { result ≡ symbols.items }
+    {
+        SymList { symbols }
+    }
+
     /// Appends a symbol.
     pub fn push(&mut self, s: Symbol) -> Result<(), Memory>
         ensures ok { OnOk result (self.new ≡ self.old ++ s ∷ []) }

@@ -1,5 +1,5 @@
-ghost use Rattle.std.specs.Prelude.{◌≡◌, ◌<◌, ◌≤◌, [], ◌∷◌, ◌++◌, true, false, Some, length, take, drop, slice_get, IfOk, IfErr, OnOk, OnErr};
-ghost use Rattle.pr_value.specs.SymbolSets.{ascends, contains, insert, union, meet, minus, subset};
+ghost use Rattle.std.specs.Prelude.{◌≡◌, ◌<◌, ◌≤◌, [], ◌∷◌, ◌++◌, true, false, Some, ◌↔◌, length, take, drop, slice_get, IfOk, IfErr, IfSome, IsNone, OnOk, OnErr};
+ghost use Rattle.pr_value.specs.SymbolSets.{ascends, contains, insert, set_of, union, meet, minus, subset};
 
 use crate::memory::Memory;
 use crate::symbol::Symbol;
@@ -30,7 +30,8 @@ impl Model for SymSet {
 // Where the symbol stands among members that ascend, or where it would.
 fn place_of(members: &[Symbol], s: &Symbol) -> Result<usize, usize>
     requires { ascends members.now ≡ true }
-    ensures found { IfOk result (λ _. contains members.now s.now ≡ true) }
+    ensures found { IfOk result (λ i. slice_get members.now i ≡ Some s.now) }
+    ensures one { IfOk result (λ _. contains members.now s.now ≡ true) }
     ensures missing { IfErr result (λ i. (i ≤ length members.now)
         × (contains members.now s.now ≡ false)
         × (insert s.now members.now ≡ take i members.now ++ s.now ∷ drop i members.now)) }
@@ -47,6 +48,15 @@ impl SymSet {
         SymSet {
             members: Vec::new(alloc),
         }
+    }
+
+    /// The set of these symbols, which may come in any order and more than once.
+    pub fn from_symbols(alloc: Global, mut symbols: Vec<Symbol>) -> Result<SymSet, Memory>
+        ensures { IfOk result (λ s. s ≡ set_of symbols.items) }
+    {
+        symbols.as_mut_slice().sort(alloc)?;
+        symbols.dedup();
+        Ok(SymSet { members: symbols })
     }
 
     /// Puts a symbol into the set. The set is unchanged after an error.
@@ -67,13 +77,12 @@ impl SymSet {
     pub fn union(&self, alloc: Global, other: &SymSet) -> Result<SymSet, Memory>
         ensures { IfOk result (λ s. s ≡ union self.now other.now) }
     {
-        let mut all = other.copy(alloc)?;
-        let mut rest = self.members.as_slice();
-        while let Some((member, before)) = rest.split_last() {
-            all.insert(member.copy(alloc)?)?;
-            rest = before;
+        let mut all = copy_symbols(alloc, self.as_slice())?;
+        for member in other.as_slice() {
+            all.push(member.copy(alloc)?)?;
         }
-        Ok(all)
+        let union = SymSet::from_symbols(alloc, all)?;
+        Ok(union)
     }
 
     /// The members of this set that are none of the other.
@@ -107,6 +116,15 @@ impl SymSet {
         ensures { result ≡ contains self.now s.now }
     {
         place_of(self.members.as_slice(), s).is_ok()
+    }
+
+    /// The place of a member in the ascending order, from 0. There is none where the symbol is no
+    /// member.
+    pub fn find(&self, s: &Symbol) -> Option<usize>
+        ensures found { IfSome result (λ i. slice_get self.now i ≡ Some s.now) }
+        ensures missing { IsNone result ↔ (contains self.now s.now ≡ false) }
+    {
+        place_of(self.members.as_slice(), s).ok()
     }
 
     /// Whether each member is one of the other set.

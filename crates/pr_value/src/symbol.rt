@@ -4,7 +4,7 @@ ghost use Rattle.std.specs.Str.{bytes_eq};
 ghost use Rattle.std.proofs.Common.{rules};
 ghost use Rattle.std.specs.Cmp.Rules.{comparing, hashing};
 ghost use Rattle.std.specs.Hash as fed;
-ghost use Rattle.pr_value.specs.Symbols.{is_letter, is_digit, is_word_byte, is_word, is_name, is_symbol};
+ghost use Rattle.pr_value.specs.Symbols.{dash, is_letter, is_digit, is_word_byte, is_word, is_name, is_symbol};
 ghost use Rattle.pr_value.specs.declared.symbol.SymbolError.TheVariants as symbol_error;
 
 use crate::memory::Memory;
@@ -85,10 +85,17 @@ fn is_word(text: &[u8]) -> bool
     }
 }
 
+/// Whether a text is a name.
+pub fn is_name(text: &[u8]) -> bool
+    ensures { result ≡ is_name text.now }
+{
+    is_word(text) && text.len() <= 64
+}
+
 fn is_symbol(text: &[u8]) -> bool
     ensures { result ≡ is_symbol text.now }
 {
-    (is_word(text) && text.len() <= 64) || text == b"-".as_slice()
+    is_name(text) || text == b"-".as_slice()
 }
 
 impl Symbol {
@@ -102,6 +109,15 @@ impl Symbol {
         }
         Ok(Symbol {
             bytes: Vec::from_slice(alloc, text)?,
+        })
+    }
+
+    /// The symbol `-`.
+    pub fn dash(alloc: Global) -> Result<Symbol, Memory>
+        ensures { IfOk result (λ s. s ≡ dash) }
+    {
+        Ok(Symbol {
+            bytes: Vec::from_slice(alloc, b"-")?,
         })
     }
 

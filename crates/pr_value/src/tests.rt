@@ -1,4 +1,4 @@
-use crate::{CAP, Mark, Memory, Symbol, SymbolError, Text, Token, Tokens, cap_add};
+use crate::{CAP, Mark, Memory, Symbol, SymbolError, Text, Token, Tokens, cap_add, is_name};
 use std::test::Fail;
 
 #[test]
@@ -29,6 +29,7 @@ fn symbols_are_names_and_dashes(rt: HostRuntime) -> Result<(), Fail> {
         (b"\xc3\xa4", false),
     ];
     for (text, is_one) in known {
+        assert_eq!(rt; is_name(text), is_one && text != b"-".as_slice());
         match Symbol::new(alloc, text) {
             Ok(symbol) => {
                 assert!(rt; is_one, "{text:?} is none");

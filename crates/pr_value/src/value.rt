@@ -1,6 +1,8 @@
 ghost use Rattle.std.specs.Prelude.{◌≡◌, ◌↔◌, ◌++◌, IsTrue, IfOk, OnOk, OnErr};
-ghost use Rattle.pr_value.specs.Values.{same_value, value_text};
+ghost use Rattle.pr_value.specs.Values.{default_of, has_kind, is_default, same_value, value_text};
 
+use crate::capped::CAP;
+use crate::kind::Kind;
 use crate::memory::Memory;
 use crate::printing::{push_number, push_quoted, push_truth, text_of_symbols};
 use crate::sym_list::SymList;
@@ -21,6 +23,46 @@ pub enum Value {
 }
 
 impl Value {
+    /// The value that a property of the kind has where none is given.
+    pub fn default_of(alloc: Global, kind: Kind) -> Result<Value, Memory>
+        ensures { IfOk result (λ v. v ≡ default_of kind) }
+    {
+        match kind {
+            Kind::Num | Kind::Cost => Ok(Value::Num(0)),
+            Kind::Truth => Ok(Value::Truth(false)),
+            Kind::Symbol => Ok(Value::Sym(Symbol::dash(alloc)?)),
+            Kind::Set => Ok(Value::Set(SymSet::new(alloc))),
+            Kind::List => Ok(Value::List(SymList::new(alloc))),
+        }
+    }
+
+    /// Whether the value is of the kind. A number or a cost is one up to `CAP`.
+    pub fn has_kind(&self, kind: Kind) -> bool
+        ensures { result ≡ has_kind kind self.now }
+    {
+        match (kind, self) {
+            (Kind::Num | Kind::Cost, Value::Num(n)) => *n <= CAP,
+            (Kind::Truth, Value::Truth(_)) => true,
+            (Kind::Symbol, Value::Sym(_)) => true,
+            (Kind::Set, Value::Set(_)) => true,
+            (Kind::List, Value::List(_)) => true,
+            _ => false,
+        }
+    }
+
+    /// Whether the value is 0, false, `-`, or a set or list without members.
+    pub fn is_default(&self) -> bool
+        ensures { result ≡ is_default self.now }
+    {
+        match self {
+            Value::Num(n) => *n == 0,
+            Value::Truth(b) => !*b,
+            Value::Sym(s) => s.as_slice() == b"-".as_slice(),
+            Value::Set(s) => s.as_slice().is_empty(),
+            Value::List(l) => l.as_slice().is_empty(),
+        }
+    }
+
     /// Whether the values are equal. It takes no memory.
     pub fn same(&self, other: &Value) -> bool
         ensures value { result ≡ same_value self.now other.now }

@@ -1,5 +1,5 @@
 use crate::fixtures::{list, set, symbol};
-use crate::{Mark, Text, Token, Value, push_token};
+use crate::{CAP, Kind, Mark, Text, Token, Value, push_token};
 use std::alloc::Global;
 use std::test::Fail;
 
@@ -47,6 +47,30 @@ fn values_are_the_same_as_themselves_alone(rt: HostRuntime) -> Result<(), Fail> 
             assert_eq!(rt; value.same(other), i == j, "{text} and {its_text}");
         }
     }
+    Ok(())
+}
+
+#[test]
+fn each_kind_has_its_default(rt: HostRuntime) -> Result<(), Fail> {
+    let alloc = rt.alloc();
+    for (kind, text) in [
+        (Kind::Num, "0"),
+        (Kind::Truth, "false"),
+        (Kind::Symbol, "'-"),
+        (Kind::Set, "{}"),
+        (Kind::List, "[]"),
+        (Kind::Cost, "0"),
+    ] {
+        let value = Value::default_of(alloc, kind)?;
+        assert!(rt; value.is_default() && value.has_kind(kind), "{text}");
+        let mut out = Text::new(alloc);
+        value.print(alloc, &mut out)?;
+        assert_eq!(rt; out.as_slice(), text.as_bytes());
+    }
+    assert!(rt; !Value::Num(1).is_default());
+    assert!(rt; !Value::List(list(alloc, "a")?).is_default());
+    assert!(rt; Value::Num(CAP).has_kind(Kind::Cost));
+    assert!(rt; !Value::Num(CAP + 1).has_kind(Kind::Num));
     Ok(())
 }
 

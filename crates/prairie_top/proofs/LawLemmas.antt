@@ -4,6 +4,10 @@ use Rattle.std.specs.Prelude.{◌⊎◌, codes}
 use Rattle.pr_outside.specs.Counts.{last_count, Still}
 use Rattle.pr_outside.specs.Files.{Files, held_under, MayFail}
 use Rattle.pr_value.specs.declared.token.Token.{Token}
+use Rattle.serde_json.specs.Data.{Data}
+use Rattle.serde_json.specs.Find.{get}
+use Rattle.catalog.specs.Contents.{Catalog}
+use Rattle.catalog.specs.Shape.{IsJson, first_bad}
 use Rattle.rule_lex.specs.Laws.{OneList, NeverBoth}
 use Rattle.rule_lex.specs.declared.error.LexError.TheVariants as lex
 use Rattle.rule_syntax.specs.Syntax.{Rules, Query}
@@ -11,7 +15,7 @@ use Rattle.rule_syntax.specs.Tokens.{Text}
 use Rattle.rule_syntax.specs.DistinctRules.{DistinctRules}
 use Rattle.rule_syntax.specs.DistinctQueries.{DistinctQueries}
 use Rattle.prairie_top.specs.declared.stage.Refusal.{Refusal}
-use Rattle.prairie_top.specs.declared.stage.Refusal.TheVariants.{TooLong, BadByte, NumberTooBig, NameTooLong, BadSyntax, TooDeep, Unbuilt}
+use Rattle.prairie_top.specs.declared.stage.Refusal.TheVariants.{TooLong, BadByte, NumberTooBig, NameTooLong, BadSyntax, TooDeep, NotJson, BadShape, Unbuilt}
 use Rattle.prairie_top.specs.declared.status.Status.{Status}
 use Rattle.prairie_top.specs.declared.status.Status.TheVariants as status
 use Rattle.prairie_top.specs.Plans.{Plan, Best, NoPlan}
@@ -59,16 +63,29 @@ not_refused lists never limit Spells Planned (NumberTooBig at) bytes ts few has 
 not_refused lists never limit Spells Planned (NameTooLong at) bytes ts few has spells planned why = never bytes has.0 (lex.NameTooLong at) has.1 why.1
 not_refused lists never limit Spells Planned (BadSyntax at) bytes ts few has spells planned (few', (us, has', none)) = none (subst Spells (one_text lists bytes ts us has has') spells)
 not_refused lists never limit Spells Planned (TooDeep at) bytes ts few has spells planned (few', (us, has', none)) = none (subst Spells (one_text lists bytes ts us has has') spells)
+not_refused lists never limit Spells Planned NotJson bytes ts few has spells planned why = why
+not_refused lists never limit Spells Planned (BadShape part) bytes ts few has spells planned why = why
 not_refused lists never limit Spells Planned Unbuilt bytes ts few has spells planned (few', (us, has', spells', none)) = none (subst Planned (one_text lists bytes ts us has has') planned)
 
-catalog_not_refused : (refusal : Refusal) (bytes : List ℕ) → length bytes ≤ catalog_limit → ReadsCatalog bytes → IsCatalogRefused refusal bytes → ⊥
-catalog_not_refused TooLong bytes few is long = omega (arith, few, long)
-catalog_not_refused Unbuilt bytes few is why = why.1 is
-catalog_not_refused (BadByte at) bytes few is why = why
-catalog_not_refused (NumberTooBig at) bytes few is why = why
-catalog_not_refused (NameTooLong at) bytes few is why = why
-catalog_not_refused (BadSyntax at) bytes few is why = why
-catalog_not_refused (TooDeep at) bytes few is why = why
+-- bytes are the text of one JSON value
+one_value : (bytes : List ℕ) (d e : Data) → IsJson bytes d → IsJson bytes e → e ≡ d
+one_value bytes d e is is' = some_is e d (sym is'.1 ∙ is.1)
+
+-- a catalog that is planned is not refused
+catalog_not_refused : (c : Catalog) (refusal : Refusal) (bytes : List ℕ) → length bytes ≤ catalog_limit → ReadsCatalog c bytes → IsCatalogRefused refusal bytes → ⊥
+catalog_not_refused c TooLong bytes few is long = omega (arith, few, long)
+catalog_not_refused c NotJson bytes few (d, json, planned, says) (few', none) = none d json
+catalog_not_refused c (BadShape part) bytes few (d, json, planned, says) (few', (e, json', bad)) =
+    let same : first_bad d ≡ Some part = subst (λ (x : Data). first_bad x ≡ Some part) (one_value bytes d e json json') bad in
+    let clash : None ≡ Some part = sym planned.0 ∙ same in
+    absurd (cc clash)
+catalog_not_refused c Unbuilt bytes few (d, json, planned, says) (few', (e, json', whole, files)) =
+    files (subst (λ (x : Data). get (codes "files") x ≡ None) (sym (one_value bytes d e json json')) planned.1)
+catalog_not_refused c (BadByte at) bytes few is why = why
+catalog_not_refused c (NumberTooBig at) bytes few is why = why
+catalog_not_refused c (NameTooLong at) bytes few is why = why
+catalog_not_refused c (BadSyntax at) bytes few is why = why
+catalog_not_refused c (TooDeep at) bytes few is why = why
 
 same_names : (words : List (List ℕ)) (n m : Names) → ArePlanWords words n → ArePlanWords words m → n ≡ m
 same_names words n m a b =
@@ -86,14 +103,14 @@ module _ (laws : Laws) (names : Names) (fetches : Fetches) (files : Files) (told
   query_same r q p h h' = let b = told_both fetches.held files names.query (Within text_limit (ReadsQuery r q)) (Within text_limit (ReadsQuery r p)) told h h' in one_query laws.lists laws.queries b.0 r q p (b.1).1 (b.2).1
 
   -- texts that are read are not refused
-  read_not_refused : (r : Rules) (q : Query) (text : List ℕ) → HoldsRules names fetches r → HoldsCatalog names fetches → HoldsQuery names fetches r q → RefusedComes names fetches text → ⊥
-  read_not_refused r q text rules catalog query (rules_refused refusal why all is) =
+  read_not_refused : (r : Rules) (c : Catalog) (q : Query) (text : List ℕ) → HoldsRules names fetches r → HoldsCatalog names fetches c → HoldsQuery names fetches r q → RefusedComes names fetches text → ⊥
+  read_not_refused r c q text rules catalog query (rules_refused refusal why all is) =
       let b = told_both fetches.held files names.rules (Within text_limit (ReadsRules r)) (IsRulesRefused refusal) told rules why in
       let reads = (b.1).1 in
       not_refused laws.lists laws.never text_limit SpellsRules (λ ts. (s : Rules) × PlannedRules s ts) refusal b.0 reads.0 (b.1).0 reads.1 (r, reads.2.0) (r, reads.2) b.2
-  read_not_refused r q text rules catalog query (catalog_refused refusal s held why all is) =
-      let b = told_both fetches.held files names.catalog (Within catalog_limit ReadsCatalog) (IsCatalogRefused refusal) told catalog why in catalog_not_refused refusal b.0 (b.1).0 (b.1).1 b.2
-  read_not_refused r q text rules catalog query (query_refused refusal s held held' why all is) =
+  read_not_refused r c q text rules catalog query (catalog_refused refusal s held why all is) =
+      let b = told_both fetches.held files names.catalog (Within catalog_limit (ReadsCatalog c)) (IsCatalogRefused refusal) told catalog why in catalog_not_refused c refusal b.0 (b.1).0 (b.1).1 b.2
+  read_not_refused r c q text rules catalog query (query_refused refusal s d held held' why all is) =
       let same = rules_same s r held rules in
       let why' = subst (λ (x : Rules). Told fetches.held names.query (IsQueryRefused x refusal)) same why in
       let b = told_both fetches.held files names.query (Within text_limit (ReadsQuery r q)) (IsQueryRefused r refusal) told query why' in
@@ -101,8 +118,8 @@ module _ (laws : Laws) (names : Names) (fetches : Fetches) (files : Files) (told
       not_refused laws.lists laws.never text_limit SpellsQuery (λ ts. (p : Query) × PlannedQuery r p ts) refusal b.0 reads.0 (b.1).0 reads.1 (q, reads.2.0) (q, reads.2) b.2
 
   -- the best plan and the lack of one
-  not_both : (r s : Rules) (q p : Query) (plan : Plan) → AreRead names fetches r q → AreRead names fetches s p → Best r.irules q plan → NoPlan s.irules p → ⊥
-  not_both r s q p plan one other best none =
+  not_both : (r s : Rules) (c d : Catalog) (q p : Query) (plan : Plan) → AreRead names fetches r c q → AreRead names fetches s d p → Best r.irules q plan → NoPlan s.irules p → ⊥
+  not_both r s c d q p plan one other best none =
       let same = rules_same s r other.rules one.rules in
       let query = subst (λ (x : Rules). HoldsQuery names fetches x p) same other.query in
       let none' = subst (λ (x : Query). NoPlan r.irules x) (query_same r p q query one.query) (subst (λ (x : Rules). NoPlan x.irules p) same none) in
@@ -112,25 +129,25 @@ module _ (laws : Laws) (names : Names) (fetches : Fetches) (files : Files) (told
   fetched_not_failed : (text : List ℕ) → fetches.before < last_count → fetches.after ≡ fetches.before → ReadFaultComes names fetches text → ⊥
   fetched_not_failed text below all (rules_failed fails is) = let rose = fails.0 in omega (arith, below, all, rose)
   fetched_not_failed text below all (catalog_failed r held fails is) = let rose = fails.0 in omega (arith, below, all, rose)
-  fetched_not_failed text below all (query_failed r held held' fails is) = let rose = fails.0 in omega (arith, below, all, rose)
+  fetched_not_failed text below all (query_failed r c held held' fails is) = let rose = fails.0 in omega (arith, below, all, rose)
 
   refused_fetched : (text : List ℕ) → RefusedComes names fetches text → fetches.after ≡ fetches.before
   refused_fetched text (rules_refused refusal why all is) = all
   refused_fetched text (catalog_refused refusal s held why all is) = all
-  refused_fetched text (query_refused refusal s held held' why all is) = all
+  refused_fetched text (query_refused refusal s d held held' why all is) = all
 
   -- two answers to `plan` are one
   plan_answers : (one other : Status) (x y : List ℕ) → fetches.before < last_count → PlanComes names fetches one x → PlanComes names fetches other y → one ≡ other
   plan_answers status.Done status.Done x y below h k = refl
-  plan_answers status.Done status.Refused x y below h k = absurd (read_not_refused h.rules h.query y h.read.rules h.read.catalog h.read.query k)
-  plan_answers status.Done status.NoPlan x y below h k = absurd (not_both h.rules k.rules h.query k.query h.plan h.read k.read h.best k.none)
+  plan_answers status.Done status.Refused x y below h k = absurd (read_not_refused h.rules h.catalog h.query y h.read.rules h.read.catalog h.read.query k)
+  plan_answers status.Done status.NoPlan x y below h k = absurd (not_both h.rules k.rules h.catalog k.catalog h.query k.query h.plan h.read k.read h.best k.none)
   plan_answers status.Done status.ReadFault x y below h k = absurd (fetched_not_failed y below h.read.fetched k)
-  plan_answers status.Refused status.Done x y below h k = absurd (read_not_refused k.rules k.query x k.read.rules k.read.catalog k.read.query h)
+  plan_answers status.Refused status.Done x y below h k = absurd (read_not_refused k.rules k.catalog k.query x k.read.rules k.read.catalog k.read.query h)
   plan_answers status.Refused status.Refused x y below h k = refl
-  plan_answers status.Refused status.NoPlan x y below h k = absurd (read_not_refused k.rules k.query x k.read.rules k.read.catalog k.read.query h)
+  plan_answers status.Refused status.NoPlan x y below h k = absurd (read_not_refused k.rules k.catalog k.query x k.read.rules k.read.catalog k.read.query h)
   plan_answers status.Refused status.ReadFault x y below h k = absurd (fetched_not_failed y below (refused_fetched x h) k)
-  plan_answers status.NoPlan status.Done x y below h k = absurd (not_both k.rules h.rules k.query h.query k.plan k.read h.read k.best h.none)
-  plan_answers status.NoPlan status.Refused x y below h k = absurd (read_not_refused h.rules h.query y h.read.rules h.read.catalog h.read.query k)
+  plan_answers status.NoPlan status.Done x y below h k = absurd (not_both k.rules h.rules k.catalog h.catalog k.query h.query k.plan k.read h.read k.best h.none)
+  plan_answers status.NoPlan status.Refused x y below h k = absurd (read_not_refused h.rules h.catalog h.query y h.read.rules h.read.catalog h.read.query k)
   plan_answers status.NoPlan status.NoPlan x y below h k = refl
   plan_answers status.NoPlan status.ReadFault x y below h k = absurd (fetched_not_failed y below h.read.fetched k)
   plan_answers status.ReadFault status.Done x y below h k = absurd (fetched_not_failed x below k.read.fetched h)
@@ -197,7 +214,7 @@ sure_holds (Some all) sure files name limit told is (bytes, at) may =
 pub never_fails : NeverFails
 never_fails names fetches files text told is rules catalog query (rules_failed fails e) = sure_holds fetches.held fetches.sure files names.rules text_limit told is rules fails.1
 never_fails names fetches files text told is rules catalog query (catalog_failed r held fails e) = sure_holds fetches.held fetches.sure files names.catalog catalog_limit told is catalog fails.1
-never_fails names fetches files text told is rules catalog query (query_failed r held held' fails e) = sure_holds fetches.held fetches.sure files names.query text_limit told is query fails.1
+never_fails names fetches files text told is rules catalog query (query_failed r c held held' fails e) = sure_holds fetches.held fetches.sure files names.query text_limit told is query fails.1
 
 -- ---- what a run ends with where nothing fails
 
@@ -214,8 +231,8 @@ put_whole puts came text status.Loop still h = inr h
 put_whole puts came text status.ReadFault still h = inr h
 put_whole puts came text status.CertRefused still h = inr h
 
-module _ (laws : Laws) (names : Names) (fetches : Fetches) (files : Files) (told : fetches.held ≡ Some files) (r : Rules) (q : Query) where
-  module _ (rules : HoldsRules names fetches r) (catalog : HoldsCatalog names fetches) (query : HoldsQuery names fetches r q) (still : Still fetches.before fetches.after) (puts : Puts) where
+module _ (laws : Laws) (names : Names) (fetches : Fetches) (files : Files) (told : fetches.held ≡ Some files) (r : Rules) (c : Catalog) (q : Query) where
+  module _ (rules : HoldsRules names fetches r) (catalog : HoldsCatalog names fetches c) (query : HoldsQuery names fetches r q) (still : Still fetches.before fetches.after) (puts : Puts) where
     planned : (came : Status) (text : List ℕ) (ended : Status) → PlanComes names fetches came text → (ended ≡ came) × PutsAll puts text → EndsPlanned r q puts ended
     planned status.Done text ended h (e, all) =
         let same = rules_same laws names fetches files told h.rules r h.read.rules rules in
@@ -227,7 +244,7 @@ module _ (laws : Laws) (names : Names) (fetches : Fetches) (files : Files) (told
         let query' = subst (λ (x : Rules). HoldsQuery names fetches x h.query) same h.read.query in
         let none = subst (λ (x : Query). NoPlan r.irules x) (query_same laws names fetches files told r h.query q query' query) (subst (λ (x : Rules). NoPlan x.irules h.query) same h.none) in
         inr (inl (e, none, subst (λ (x : List ℕ). PutsAll puts x) h.is all))
-    planned status.Refused text ended h p = absurd (read_not_refused laws names fetches files told r q text rules catalog query h)
+    planned status.Refused text ended h p = absurd (read_not_refused laws names fetches files told r c q text rules catalog query h)
     planned status.ReadFault text ended h p = absurd (fetched_not_failed laws names fetches files told text (subst (λ n. n < last_count) still.0 still.1) still.0 h)
     planned status.Usage text ended h p = absurd h
     planned status.Limit text ended h p = absurd h
@@ -238,13 +255,13 @@ module _ (laws : Laws) (names : Names) (fetches : Fetches) (files : Files) (told
     planned status.CertRefused text ended h p = absurd h
 
 pub complete : Laws → Complete
-complete laws words names fetches puts files r q ended told are rules catalog query still whole ends =
+complete laws words names fetches puts files r c q ended told are rules catalog query still whole ends =
     elim (put_whole puts ends.came ends.text ended whole ends.put) [
       | inl memory ↦ inr (inr memory)
       | inr put ↦ elim (kinds words fetches ends.came ends.text ends.comes) [
         | inl (is, none) ↦ absurd (none names are)
         | inr (inl memory) ↦ inr (inr (put.0 ∙ memory))
         | inr (inr (m, are', comes)) ↦
-            planned laws names fetches files told r q rules catalog query still puts ends.came ends.text ended (subst (λ (w : Names). PlanComes w fetches ends.came ends.text) (same_names words m names are' are) comes) put
+            planned laws names fetches files told r c q rules catalog query still puts ends.came ends.text ended (subst (λ (w : Names). PlanComes w fetches ends.came ends.text) (same_names words m names are' are) comes) put
       ]
     ]

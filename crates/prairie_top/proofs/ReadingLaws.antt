@@ -3,7 +3,7 @@ use Rattle.std.proofs.Common.{◌≡◌, ℕ, ◌≤◌, List, length, Result, O
 use Rattle.std.specs.Prelude.{MatchResult}
 use Rattle.rule_syntax.specs.Tokens.{Text}
 use Rattle.prairie_top.specs.declared.stage.Refusal.{Refusal}
-use Rattle.prairie_top.specs.declared.stage.Refusal.TheVariants.{TooLong, BadByte, NumberTooBig, NameTooLong, BadSyntax, TooDeep, Unbuilt}
+use Rattle.prairie_top.specs.declared.stage.Refusal.TheVariants.{TooLong, BadByte, NumberTooBig, NameTooLong, BadSyntax, TooDeep, NotJson, BadShape, Unbuilt}
 use Rattle.prairie_top.specs.Outcome.{text_limit, IsRefused}
 use Rattle.prairie_top.specs.Reading.{HasTokens}
 use Rattle.prairie_top.specs.Stages.{HasNoTokens, AreRefused}
@@ -17,6 +17,8 @@ module _ (Spells Planned : Text → Type 0) (bytes : List ℕ) (ts : Text) (has 
   refused (TooDeep at) none few = (few, (ts, has, none))
   refused Unbuilt h few = (few, (ts, has, h.0, h.1))
   refused TooLong h few = absurd h
+  refused NotJson h few = absurd h
+  refused (BadShape part) h few = absurd h
   refused (BadByte at) h few = absurd h
   refused (NumberTooBig at) h few = absurd h
   refused (NameTooLong at) h few = absurd h

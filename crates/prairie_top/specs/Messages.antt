@@ -2,11 +2,20 @@
 use Rattle.std.specs.Prelude.{ℕ, List, ◌++◌, codes}
 use Rattle.std.specs.Fmt.{decimal}
 use Rattle.prairie_top.specs.declared.stage.Refusal.{Refusal}
-use Rattle.prairie_top.specs.declared.stage.Refusal.TheVariants.{TooLong, BadByte, NumberTooBig, NameTooLong, BadSyntax, TooDeep, Unbuilt}
+use Rattle.prairie_top.specs.declared.stage.Refusal.TheVariants.{TooLong, BadByte, NumberTooBig, NameTooLong, BadSyntax, TooDeep, NotJson, BadShape, Unbuilt}
+use Rattle.catalog.specs.declared.error.CatalogPart.{CatalogPart}
+use Rattle.catalog.specs.declared.error.CatalogPart.TheVariants as part
 
 -- a kind, and the offset that it comes with
 abbrev pub at_offset : List ℕ → ℕ → List ℕ
 at_offset kind at = kind ++ codes " " ++ decimal at
+
+abbrev pub part_name : CatalogPart → List ℕ
+part_name part.Root = codes "Root"
+part_name part.Files = codes "Files"
+part_name part.File = codes "File"
+part_name part.Tables = codes "Tables"
+part_name part.Row = codes "Row"
 
 abbrev pub refusal_name : Refusal → List ℕ
 refusal_name TooLong = codes "TooLong"
@@ -15,6 +24,8 @@ refusal_name (NumberTooBig at) = at_offset (codes "NumberTooBig") at
 refusal_name (NameTooLong at) = at_offset (codes "NameTooLong") at
 refusal_name (BadSyntax at) = at_offset (codes "BadSyntax") at
 refusal_name (TooDeep at) = at_offset (codes "TooDeep") at
+refusal_name NotJson = codes "NotJson"
+refusal_name (BadShape part) = codes "BadShape " ++ part_name part
 refusal_name Unbuilt = codes "Unbuilt"
 
 -- a text, and why it is refused

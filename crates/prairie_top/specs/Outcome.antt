@@ -1,8 +1,12 @@
 -- What a run may come to: each answer with its cause. The causes exclude each other.
-use Rattle.std.specs.Prelude.{◌≡◌, ℕ, ◌<◌, ◌≤◌, List, length, codes, ◌⊎◌}
+use Rattle.std.specs.Prelude.{◌≡◌, ◌≢◌, ℕ, ◌<◌, ◌≤◌, List, length, codes, Some, None, ◌⊎◌}
 use Rattle.pr_outside.specs.Counts.{Rose}
 use Rattle.pr_outside.specs.Files.{MayFail}
 use Rattle.pr_outside.specs.Written.{Appends, AppendsPrefix}
+use Rattle.serde_json.specs.Data.{Data}
+use Rattle.serde_json.specs.Find.{get}
+use Rattle.catalog.specs.Contents.{Catalog}
+use Rattle.catalog.specs.Shape.{IsJson, first_bad}
 use Rattle.rule_lex.specs.Lexes.{Refuses}
 use Rattle.rule_lex.specs.declared.error.LexError.TheVariants as lex
 use Rattle.rule_syntax.specs.Syntax.{Rules, Query}
@@ -14,7 +18,7 @@ use Rattle.prairie_top.specs.PlanText.{plan_text}
 use Rattle.prairie_top.specs.Reading.{HasTokens, SpellsRules, PlannedRules, ReadsRules, ReadsCatalog, SpellsQuery, PlannedQuery, ReadsQuery}
 use Rattle.prairie_top.specs.Run.{Fetches, Puts, Names, ArePlanWords, Told}
 use Rattle.prairie_top.specs.declared.stage.Refusal.{Refusal}
-use Rattle.prairie_top.specs.declared.stage.Refusal.TheVariants.{TooLong, BadByte, NumberTooBig, NameTooLong, BadSyntax, TooDeep, Unbuilt}
+use Rattle.prairie_top.specs.declared.stage.Refusal.TheVariants.{TooLong, BadByte, NumberTooBig, NameTooLong, BadSyntax, TooDeep, NotJson, BadShape, Unbuilt}
 use Rattle.prairie_top.specs.Messages.{refusal_text, usage_text, no_plan_text, memory_text, fault_text}
 
 -- the most bytes of the rules and of the query, and of the catalog
@@ -45,6 +49,7 @@ IsRefused limit Spells Planned (NameTooLong at) bytes = Within limit (λ b. Refu
 IsRefused limit Spells Planned (BadSyntax at) bytes = Within limit (IsUnread Spells) bytes
 IsRefused limit Spells Planned (TooDeep at) bytes = Within limit (IsUnread Spells) bytes
 IsRefused limit Spells Planned Unbuilt bytes = Within limit (IsUnplanned Spells Planned) bytes
+IsRefused limit Spells Planned _ bytes = ⊥
 
 abbrev pub IsRulesRefused : Refusal → List ℕ → Type 0
 IsRulesRefused = IsRefused text_limit SpellsRules (λ ts. (r : Rules) × PlannedRules r ts)
@@ -52,10 +57,16 @@ IsRulesRefused = IsRefused text_limit SpellsRules (λ ts. (r : Rules) × Planned
 abbrev pub IsQueryRefused : Rules → Refusal → List ℕ → Type 0
 IsQueryRefused r = IsRefused text_limit SpellsQuery (λ ts. (q : Query) × PlannedQuery r q ts)
 
--- a catalog is past the limit, or else another text than `{}`
+-- the bytes are the text of no JSON value
+abbrev pub IsNotJson : List ℕ → Type 0
+IsNotJson bytes = (d : Data) → IsJson bytes d → ⊥
+
+-- a catalog is past the limit; or else is no JSON; or has this first part that is not as it must be; or lists files
 abbrev pub IsCatalogRefused : Refusal → List ℕ → Type 0
 IsCatalogRefused TooLong bytes = catalog_limit < length bytes
-IsCatalogRefused Unbuilt bytes = Within catalog_limit (λ b. ReadsCatalog b → ⊥) bytes
+IsCatalogRefused NotJson bytes = Within catalog_limit IsNotJson bytes
+IsCatalogRefused (BadShape part) bytes = Within catalog_limit (λ b. (d : Data) × IsJson b d × (first_bad d ≡ Some part)) bytes
+IsCatalogRefused Unbuilt bytes = Within catalog_limit (λ b. (d : Data) × IsJson b d × (first_bad d ≡ None) × (get (codes "files") d ≢ None)) bytes
 IsCatalogRefused _ bytes = ⊥
 
 -- ---- the causes of the answers to `plan` with these names
@@ -66,8 +77,8 @@ module _ (names : Names) (fetches : Fetches) where
   abbrev pub HoldsRules : Rules → Type 0
   HoldsRules r = Told fetches.held names.rules (Within text_limit (ReadsRules r))
 
-  abbrev pub HoldsCatalog : Type 0
-  HoldsCatalog = Told fetches.held names.catalog (Within catalog_limit ReadsCatalog)
+  abbrev pub HoldsCatalog : Catalog → Type 0
+  HoldsCatalog c = Told fetches.held names.catalog (Within catalog_limit (ReadsCatalog c))
 
   abbrev pub HoldsQuery : Rules → Query → Type 0
   HoldsQuery r q = Told fetches.held names.query (Within text_limit (ReadsQuery r q))
@@ -80,29 +91,31 @@ module _ (names : Names) (fetches : Fetches) where
   pub data RefusedComes (text : List ℕ) : Type 0 where
     rules_refused : (refusal : Refusal) → Told fetches.held names.rules (IsRulesRefused refusal) → AllFetched → text ≡ refusal_text (codes "rules") refusal → RefusedComes text
     catalog_refused : (refusal : Refusal) (r : Rules) → HoldsRules r → Told fetches.held names.catalog (IsCatalogRefused refusal) → AllFetched → text ≡ refusal_text (codes "catalog") refusal → RefusedComes text
-    query_refused : (refusal : Refusal) (r : Rules) → HoldsRules r → HoldsCatalog → Told fetches.held names.query (IsQueryRefused r refusal) → AllFetched → text ≡ refusal_text (codes "query") refusal → RefusedComes text
+    query_refused : (refusal : Refusal) (r : Rules) (c : Catalog) → HoldsRules r → HoldsCatalog c → Told fetches.held names.query (IsQueryRefused r refusal) → AllFetched → text ≡ refusal_text (codes "query") refusal → RefusedComes text
 
-  -- the texts are read as a query under rules
-  pub record AreRead (r : Rules) (q : Query) : Type 0 where
+  -- the texts are read as a query under rules, with a catalog
+  pub record AreRead (r : Rules) (c : Catalog) (q : Query) : Type 0 where
     pub rules : HoldsRules r
-    pub catalog : HoldsCatalog
+    pub catalog : HoldsCatalog c
     pub query : HoldsQuery r q
     pub fetched : AllFetched
 
   -- no plan of the query costs less than this one, and the text is this plan's
   pub record DoneComes (text : List ℕ) : Type 0 where
     pub rules : Rules
+    pub catalog : Catalog
     pub query : Query
     pub plan : Plan
-    pub read : AreRead rules query
+    pub read : AreRead rules catalog query
     pub best : Best rules.irules query plan
     pub is : text ≡ plan_text rules.irules plan
 
   -- no plan implements the query
   pub record NoPlanComes (text : List ℕ) : Type 0 where
     pub rules : Rules
+    pub catalog : Catalog
     pub query : Query
-    pub read : AreRead rules query
+    pub read : AreRead rules catalog query
     pub none : NoPlan rules.irules query
     pub is : text ≡ no_plan_text
 
@@ -114,7 +127,7 @@ module _ (names : Names) (fetches : Fetches) where
   pub data ReadFaultComes (text : List ℕ) : Type 0 where
     rules_failed : Fails names.rules text_limit → text ≡ fault_text names.rules → ReadFaultComes text
     catalog_failed : (r : Rules) → HoldsRules r → Fails names.catalog catalog_limit → text ≡ fault_text names.catalog → ReadFaultComes text
-    query_failed : (r : Rules) → HoldsRules r → HoldsCatalog → Fails names.query text_limit → text ≡ fault_text names.query → ReadFaultComes text
+    query_failed : (r : Rules) (c : Catalog) → HoldsRules r → HoldsCatalog c → Fails names.query text_limit → text ≡ fault_text names.query → ReadFaultComes text
 
   -- `plan` with these names comes to this answer, with this text
   abbrev pub PlanComes : Status → List ℕ → Type 0

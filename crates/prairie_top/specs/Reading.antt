@@ -1,5 +1,9 @@
 -- What the bytes of a text read as.
-use Rattle.std.specs.Prelude.{◌≡◌, ℕ, true, List, map, codes}
+use Rattle.std.specs.Prelude.{◌≡◌, ℕ, true, List, map, codes, None}
+use Rattle.serde_json.specs.Data.{Data}
+use Rattle.serde_json.specs.Find.{get}
+use Rattle.catalog.specs.Contents.{Catalog}
+use Rattle.catalog.specs.Shape.{IsJson, first_bad, Says}
 use Rattle.pr_value.specs.declared.token.Token.{Token}
 use Rattle.rule_lex.specs.Lexes.{Lexes}
 use Rattle.rule_syntax.specs.Syntax.{Rules, Query}
@@ -22,8 +26,13 @@ PlannedRules r ts = IsRules r ts × (is_planned r ≡ true)
 abbrev pub ReadsRules : Rules → List ℕ → Type 0
 ReadsRules r bytes = (ts : Text) × HasTokens bytes ts × PlannedRules r ts
 
-abbrev pub ReadsCatalog : List ℕ → Type 0
-ReadsCatalog bytes = bytes ≡ codes "{}"
+-- the JSON value is a catalog, and one that lists no files
+abbrev pub PlannedCatalog : Data → Type 0
+PlannedCatalog d = (first_bad d ≡ None) × (get (codes "files") d ≡ None)
+
+-- the bytes are the JSON text of this catalog, which is planned
+abbrev pub ReadsCatalog : Catalog → List ℕ → Type 0
+ReadsCatalog c bytes = (d : Data) × IsJson bytes d × PlannedCatalog d × Says c d
 
 -- the tokens are those of a query, and of one that is planned with the rules
 abbrev pub SpellsQuery : Text → Type 0

@@ -1,5 +1,5 @@
 // The three texts, each fetched and read whole.
-ghost use Rattle.std.specs.Prelude.{◌≡◌, IsTrue, ◌↔◌, IfOk};
+ghost use Rattle.std.specs.Prelude.{◌≡◌, IfOk};
 ghost use Rattle.prairie_top.specs.Run.{Fetches};
 ghost use Rattle.rule_syntax.specs.Seen.{seen_query};
 ghost use Rattle.rule_syntax.specs.SeenRules.{seen_rules};
@@ -7,8 +7,9 @@ ghost use Rattle.prairie_top.specs.Outcome.{IsRulesRefused, IsCatalogRefused, Is
 ghost use Rattle.prairie_top.specs.Reading.{ReadsRules, ReadsCatalog, ReadsQuery};
 ghost use Rattle.prairie_top.specs.Stages.{IsFetched, IsStage};
 
-use crate::reading::{query_in, rules_in};
+use crate::reading::{catalog_in, query_in, rules_in};
 use crate::stage::{Refusal, Stage};
+use catalog::Catalog;
 use pr_outside::{Bytes, FetchError, Name, Shelf};
 use pr_value::Memory;
 use rule_syntax::{QueryText, Rules};
@@ -58,33 +59,24 @@ pub fn fetch_rules<F: Shelf>(
     }
 }
 
-/// The catalog under a name, which has nothing to read.
+/// The catalog under a name.
 pub fn fetch_catalog<F: Shelf>(
     alloc: Global,
     shelf: &mut F,
     name: &Name,
-) -> Result<Stage<()>, Memory>
+) -> Result<Stage<Catalog>, Memory>
     ensures held { F.held shelf.new ≡ F.held shelf.old }
     ensures sure { F.sure shelf.new ≡ F.sure shelf.old }
-    ensures stage { IfOk result (IsStage IsCatalogRefused (λ _. ReadsCatalog) (record { held = F.held shelf.old; sure = F.sure shelf.old; before = F.faults shelf.old; after = F.faults shelf.new }) name.now CATALOG_LIMIT) }
+    ensures stage { IfOk result (IsStage IsCatalogRefused ReadsCatalog (record { held = F.held shelf.old; sure = F.sure shelf.old; before = F.faults shelf.old; after = F.faults shelf.new }) name.now CATALOG_LIMIT) }
 {
     match fetched(alloc, shelf, name, CATALOG_LIMIT)? {
-        Stage::Read(bytes) => {
-            if is_catalog(bytes.as_slice()) {
-                Ok(Stage::Read(()))
-            } else {
-                Ok(Stage::Refused(Refusal::Unbuilt))
-            }
-        }
+        Stage::Read(bytes) => match catalog_in(alloc, bytes.as_slice())? {
+            Ok(catalog) => Ok(Stage::Read(catalog)),
+            Err(refusal) => Ok(Stage::Refused(refusal)),
+        },
         Stage::Refused(refusal) => Ok(Stage::Refused(refusal)),
         Stage::Failed => Ok(Stage::Failed),
     }
-}
-
-fn is_catalog(bytes: &[u8]) -> bool
-    ensures { IsTrue result ↔ ReadsCatalog bytes.now }
-{
-    bytes == b"{}".as_slice()
 }
 
 /// The query under a name, over the rules.

@@ -1,4 +1,4 @@
-ghost use Rattle.prairie_top.specs.Laws.{OneAnswer, Complete, NeverFails};
+ghost use Rattle.prairie_top.specs.Laws.{OneAnswer, Complete, NeverFails, PrintsTokens};
 
 use rule_lex::token_laws;
 use rule_syntax::spelling_laws;
@@ -10,6 +10,14 @@ pub fn outcome_laws()
     ensures one_answer { OneAnswer }
     ensures complete { Complete }
     ensures sure { NeverFails }
+{
+    token_laws();
+    spelling_laws();
+}
+
+/// What is printed of a rule set has the rule set's tokens, and so reads as it.
+pub fn printing_laws()
+    ensures { PrintsTokens }
 {
     token_laws();
     spelling_laws();

@@ -17,7 +17,7 @@ mod status;
 mod top;
 mod words;
 
-pub use laws::outcome_laws;
+pub use laws::{outcome_laws, printing_laws};
 pub use status::Status;
 pub use top::run;
 

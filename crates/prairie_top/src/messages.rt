@@ -1,7 +1,8 @@
-ghost use Rattle.std.specs.Prelude.{◌≡◌, ◌++◌, [], OnOk};
-ghost use Rattle.prairie_top.specs.Messages.{at_offset, refusal_name, refusal_text, fault_text};
+ghost use Rattle.std.specs.Prelude.{◌≡◌, ◌++◌, [], codes, OnOk};
+ghost use Rattle.prairie_top.specs.Messages.{at_offset, part_name, refusal_name, refusal_text, fault_text};
 
 use crate::stage::Refusal;
+use catalog::CatalogPart;
 use pr_outside::Name;
 use pr_value::{Memory, Text};
 use std::alloc::Global;
@@ -37,10 +38,35 @@ fn push_kind(alloc: Global, refusal: Refusal, text: &mut Text) -> Result<(), Mem
         Refusal::NameTooLong { at } => push_at(alloc, b"NameTooLong", at, text),
         Refusal::BadSyntax { at } => push_at(alloc, b"BadSyntax", at, text),
         Refusal::TooDeep { at } => push_at(alloc, b"TooDeep", at, text),
+        Refusal::NotJson => {
+            text.push_bytes(b"NotJson")?;
+            Ok(())
+        }
+        Refusal::BadShape { part } => push_part(part, text),
         Refusal::Unbuilt => {
             text.push_bytes(b"Unbuilt")?;
             Ok(())
         }
+    }
+}
+
+fn push_part(part: CatalogPart, text: &mut Text) -> Result<(), Memory>
+    ensures { OnOk result (text.new ≡ text.old ++ codes "BadShape " ++ part_name part) }
+{
+    text.push_bytes(b"BadShape ")?;
+    text.push_bytes(name_of_part(part))?;
+    Ok(())
+}
+
+fn name_of_part(part: CatalogPart) -> &'static [u8]
+    ensures { result.now ≡ part_name part }
+{
+    match part {
+        CatalogPart::Root => b"Root",
+        CatalogPart::Files => b"Files",
+        CatalogPart::File => b"File",
+        CatalogPart::Tables => b"Tables",
+        CatalogPart::Row => b"Row",
     }
 }
 

@@ -1,15 +1,16 @@
-// From texts to rule sets and queries that are planned, or why they are refused.
+// From texts to rule sets, catalogs and queries that are planned, or why they are refused.
 ghost use Rattle.std.specs.Prelude.{◌≡◌, ◌≤◌, length, IfOk, MatchResult};
 ghost use Rattle.pr_value.specs.Placed.{tokens_in};
 ghost use Rattle.rule_syntax.specs.Seen.{seen_query};
 ghost use Rattle.rule_syntax.specs.SeenRules.{seen_rules};
 ghost use Rattle.rule_syntax.specs.Syntax as syntax;
-ghost use Rattle.prairie_top.specs.Outcome.{text_limit, IsRulesRefused, IsQueryRefused};
-ghost use Rattle.prairie_top.specs.Reading.{HasTokens, SpellsRules, PlannedRules, ReadsRules, SpellsQuery, PlannedQuery, ReadsQuery};
+ghost use Rattle.prairie_top.specs.Outcome.{text_limit, catalog_limit, IsRulesRefused, IsCatalogRefused, IsQueryRefused};
+ghost use Rattle.prairie_top.specs.Reading.{HasTokens, SpellsRules, PlannedRules, ReadsRules, ReadsCatalog, SpellsQuery, PlannedQuery, ReadsQuery};
 ghost use Rattle.prairie_top.specs.Stages.{HasNoTokens, AreRefused};
 
 use crate::form::{is_planned, is_planned_query};
 use crate::stage::Refusal;
+use catalog::{Catalog, CatalogError, read_catalog};
 use pr_value::{Memory, Tokens};
 use rule_lex::{LexError, tokens};
 use rule_syntax::{QueryText, Rules, SyntaxError, read_query, read_rules};
@@ -74,6 +75,23 @@ pub fn rules_in(alloc: Global, text: &[u8]) -> Result<Result<Rules, Refusal>, Me
             Ok(read)
         }
         Err(refusal) => Ok(Err(refusal)),
+    }
+}
+
+/// The catalog that a text reads as, where it is planned.
+pub fn catalog_in(alloc: Global, text: &[u8]) -> Result<Result<Catalog, Refusal>, Memory>
+    ensures { IfOk result (λ o. MatchResult o (λ c. ReadsCatalog c text.now) (λ e. length text.now ≤ catalog_limit → IsCatalogRefused e text.now)) }
+{
+    match read_catalog(alloc, text) {
+        Ok(catalog) => {
+            if catalog.lists_files() {
+                return Ok(Err(Refusal::Unbuilt));
+            }
+            Ok(Ok(catalog))
+        }
+        Err(CatalogError::NotJson) => Ok(Err(Refusal::NotJson)),
+        Err(CatalogError::BadShape { part }) => Ok(Err(Refusal::BadShape { part })),
+        Err(CatalogError::Memory) => Err(Memory),
     }
 }
 

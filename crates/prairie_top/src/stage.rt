@@ -1,3 +1,5 @@
+use catalog::CatalogPart;
+
 /// Why a text is refused. Offsets are in bytes from the start of the text.
 #[derive(Clone, Copy, PartialEq, Eq, Debug)]
 pub enum Refusal {
@@ -13,6 +15,10 @@ pub enum Refusal {
     BadSyntax { at: usize },
     /// A part that is nested too deep begins at this offset.
     TooDeep { at: usize },
+    /// It is no JSON.
+    NotJson,
+    /// It is JSON, and this is the first part that is not as it must be.
+    BadShape { part: CatalogPart },
     /// It is read, and is not of the form that is planned.
     Unbuilt,
 }

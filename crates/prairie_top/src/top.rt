@@ -1,4 +1,5 @@
 ghost use Rattle.std.specs.Prelude.{◌≡◌, ◌≢◌, [], IfOk};
+ghost use Rattle.catalog.specs.Contents.{Catalog};
 ghost use Rattle.prairie_top.specs.Outcome.{HoldsRules, HoldsCatalog, PlanComes, Comes, PutsOnce, Ends};
 ghost use Rattle.rule_syntax.specs.Seen.{seen_query};
 ghost use Rattle.rule_syntax.specs.SeenRules.{seen_rules};
@@ -112,7 +113,7 @@ fn with_rules<F: Shelf>(
     ensures comes { IfOk result (λ came. PlanComes (seen_names names.now) (record { held = F.held shelf.old; sure = F.sure shelf.old; before = F.faults shelf.old; after = F.faults shelf.new }) came text.new) }
 {
     match fetch_catalog(alloc, shelf, names.catalog)? {
-        Stage::Read(()) => with_catalog(alloc, rules, names, shelf, text),
+        Stage::Read(_catalog) => with_catalog(alloc, rules, names, shelf, text),
         Stage::Refused(refusal) => {
             push_refusal(alloc, b"catalog", refusal, text)?;
             Ok(Status::Refused)
@@ -134,7 +135,7 @@ fn with_catalog<F: Shelf>(
 ) -> Result<Status, Memory>
     requires empty { text.old ≡ [] }
     requires rules { HoldsRules (seen_names names.now) (record { held = F.held shelf.old; sure = F.sure shelf.old; before = F.faults shelf.old; after = F.faults shelf.old }) (seen_rules rules.now) }
-    requires catalog { HoldsCatalog (seen_names names.now) (record { held = F.held shelf.old; sure = F.sure shelf.old; before = F.faults shelf.old; after = F.faults shelf.old }) }
+    requires catalog { (c : Catalog) × HoldsCatalog (seen_names names.now) (record { held = F.held shelf.old; sure = F.sure shelf.old; before = F.faults shelf.old; after = F.faults shelf.old }) c }
     ensures held { F.held shelf.new ≡ F.held shelf.old }
     ensures comes { IfOk result (λ came. PlanComes (seen_names names.now) (record { held = F.held shelf.old; sure = F.sure shelf.old; before = F.faults shelf.old; after = F.faults shelf.new }) came text.new) }
 {

@@ -10,19 +10,20 @@ use Rattle.pr_value.specs.declared.token.Token.{Token}
 use Rattle.pr_value.specs.declared.token.Token.TheVariants as token
 use Rattle.pr_value.specs.declared.token.Mark.{Mark}
 use Rattle.pr_value.specs.declared.token.Mark.TheVariants as mark
-use Rattle.rule_lex.specs.Lexemes.{mark_text, is_numeral, value_from, quote, Spells, IsLexeme}
+use Rattle.pr_value.specs.TokenTexts.{mark_text, quote}
+use Rattle.rule_lex.specs.Lexemes.{is_numeral, value_from, Spells, IsLexeme}
 use Rattle.rule_lex.specs.Runs.{begins, IsRun}
 use Rattle.rule_lex.specs.Steps.{is_quotable, is_other, BeginsSymbol}
 use Rattle.rule_lex.proofs.RunLaws.{passes_within}
 
 -- what the first byte of a token of each class is
-abbrev First : ℕ → Token → Type 0
+abbrev pub First : ℕ → Token → Type 0
 First a (token.Name s) = is_letter a ≡ true
 First a (token.Number n) = is_digit a ≡ true
 First a (token.Quoted s) = a ≡ quote
 First a (token.Mark m) = is_other a ≡ true
 
-first_of_mark : (m : Mark) → begins is_other (mark_text m) ≡ true
+pub first_of_mark : (m : Mark) → begins is_other (mark_text m) ≡ true
 first_of_mark mark.OpenBrace = refl
 first_of_mark m = refl
 
@@ -32,7 +33,7 @@ first_same a c xs ys e = cc
 rest_same : (a c : ℕ) (xs ys : List ℕ) → a ∷ xs ≡ c ∷ ys → xs ≡ ys
 rest_same a c xs ys e = cc
 
-first : (a : ℕ) (bs : List ℕ) (u : Token) → Spells (a ∷ bs) u → First a u
+pub first : (a : ℕ) (bs : List ℕ) (u : Token) → Spells (a ∷ bs) u → First a u
 first a bs (token.Name s) h = (and_parts (is_letter a) _ (ap is_word h.0 ∙ h.1)).0
 first a bs (token.Number n) h = (and_parts (is_digit a) _ h.0).0
 first a bs (token.Quoted s) h = first_same a quote bs s h.0

@@ -9,7 +9,8 @@ use Rattle.pr_value.specs.declared.token.Token.{Token}
 use Rattle.pr_value.specs.declared.token.Token.TheVariants as token
 use Rattle.pr_value.specs.declared.token.Mark.{Mark}
 use Rattle.pr_value.specs.declared.token.Mark.TheVariants as mark
-use Rattle.rule_lex.specs.Lexemes.{mark_text, is_numeral, quote, Spells, IsLexeme, NoneBegins}
+use Rattle.pr_value.specs.TokenTexts.{mark_text, quote}
+use Rattle.rule_lex.specs.Lexemes.{is_numeral, Spells, IsLexeme, NoneBegins}
 
 -- the mark with this text
 abbrev find_mark : List Mark → List ℕ → Option Mark

@@ -8,7 +8,8 @@ use Rattle.pr_value.specs.declared.token.Token.TheVariants as token
 use Rattle.rule_lex.specs.declared.error.LexError.{LexError}
 use Rattle.rule_lex.specs.declared.error.LexError.TheVariants as error
 use Rattle.rule_lex.specs.Gaps.{after_gap}
-use Rattle.rule_lex.specs.Lexemes.{value_from, quote, longest_name, Spells, IsLexeme}
+use Rattle.pr_value.specs.TokenTexts.{quote}
+use Rattle.rule_lex.specs.Lexemes.{value_from, longest_name, Spells, IsLexeme}
 use Rattle.rule_lex.specs.Lexes.{Leads, Lexes, IsFault, Refuses}
 use Rattle.rule_lex.specs.Runs.{begins, IsRun}
 use Rattle.rule_lex.specs.Steps.{Begins, BeginsSymbol}

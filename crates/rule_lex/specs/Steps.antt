@@ -4,7 +4,8 @@ use Rattle.std.specs.Str.{bytes_eq}
 use Rattle.pr_value.specs.Symbols.{Symbol, is_letter, is_word, is_word_byte, dash}
 use Rattle.pr_value.specs.declared.token.Token.{Token}
 use Rattle.pr_value.specs.declared.token.Mark.{Mark}
-use Rattle.rule_lex.specs.Lexemes.{IsLexeme, Fits, mark_text, quote}
+use Rattle.pr_value.specs.TokenTexts.{mark_text, quote}
+use Rattle.rule_lex.specs.Lexemes.{IsLexeme, Fits}
 use Rattle.rule_lex.specs.Runs.{begins}
 
 -- the text begins with this token, which fits

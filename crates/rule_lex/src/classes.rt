@@ -1,6 +1,7 @@
 ghost use Rattle.std.specs.Prelude.{◌≡◌, ◌≢◌, ◌+◌, ◌^◌, ◌<◌, ◌≤◌, [], ◌∷◌, true, length, IfOk, IfErr, MatchOption};
 ghost use Rattle.pr_value.specs.Symbols as symbols;
-ghost use Rattle.rule_lex.specs.Lexemes.{quote, longest_name};
+ghost use Rattle.pr_value.specs.TokenTexts.{quote};
+ghost use Rattle.rule_lex.specs.Lexemes.{longest_name};
 ghost use Rattle.rule_lex.specs.Lexes.{IsFault};
 ghost use Rattle.rule_lex.specs.Runs.{begins};
 ghost use Rattle.rule_lex.specs.Steps.{Begins, BeginsSymbol, NoSymbol, is_quotable, is_other};

@@ -1,5 +1,5 @@
 ghost use Rattle.std.specs.Prelude.{◌≡◌, ◌++◌, ◌∷◌, [], MatchOption};
-ghost use Rattle.rule_lex.specs.Lexemes.{mark_text};
+ghost use Rattle.pr_value.specs.TokenTexts.{mark_text};
 ghost use Rattle.rule_lex.specs.Steps.{NoMark, NoPair, IsPairAt};
 
 use pr_value::Mark;

@@ -11,3 +11,5 @@ pub mod PartLaws
 pub mod SideLaws
 pub mod RulesLaws
 pub mod QueryLaws
+pub mod PrintableLaws
+mod TypingRows

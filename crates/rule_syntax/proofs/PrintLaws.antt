@@ -3,14 +3,14 @@ use Rattle.std.proofs.Common.{map, ◌≡◌, ℕ, ◌+◌, ◌<◌, List, [], �
 use Rattle.std.specs.Prelude.{codes}
 use Rattle.std.proofs.lemmas.List.{length-map, length-take-le, take_more}
 use Rattle.std.proofs.lemmas.List.Folds.{flat_map-map}
-use Rattle.pr_value.specs.TokenTexts.{token_text}
+use Rattle.pr_value.specs.TokenTexts.{token_text, spaced}
 use Rattle.pr_value.specs.declared.token.Token.{Token}
 use Rattle.pr_value.specs.declared.token.Mark.{Mark}
 use Rattle.pr_value.specs.declared.token.Mark.TheVariants.{Comma}
 use Rattle.pr_value.specs.declared.token.Mark.TheVariants as mark
 use Rattle.pr_value.specs.Symbols.{Symbol}
 use Rattle.pr_value.specs.Trees.{Tree, tree, trees_of}
-use Rattle.rule_syntax.specs.Spaced.{spaced, before_part}
+use Rattle.rule_syntax.specs.Separators.{before_part}
 use Rattle.rule_syntax.specs.Tokens.{Text, m, name, commas, expr_tokens, exprs_tokens, binop_mark, fold_name, left_tokens, lefts_tokens, right_tokens, rights_tokens, stmt_tokens, block, property_tokens, operator_tokens, algorithm_tokens, helper_tokens, trule_tokens, irule_tokens, tokens_of}
 use Rattle.rule_syntax.specs.Syntax.{LeftLabel, RightLabel}
 use Rattle.rule_syntax.specs.Seen.{seen_expr, exprs_of, seen_stmt, seen_operator, seen_helper, seen_trule, seen_irule, seen_left, seen_left_in, left_level, left_input_level, seen_right, seen_right_in, right_level, right_input_level}

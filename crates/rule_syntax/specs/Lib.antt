@@ -1,6 +1,8 @@
+pub mod CostForms
 pub mod DistinctQueries
 pub mod DistinctRules
 pub mod Levels
+pub mod Printable
 pub mod Reading
 pub mod ReadingExpr
 pub mod ReadingParts
@@ -9,7 +11,8 @@ pub mod ReadingRules
 pub mod ReadingSides
 pub mod Seen
 pub mod SeenRules
-pub mod Spaced
+pub mod Separators
 pub mod Spelled
 pub mod Syntax
 pub mod Tokens
+pub mod Typing

@@ -69,7 +69,7 @@ const NOT_ACCEPTED: [&[u8]; 15] = [
 ];
 
 /// Texts with the refusal that the first of them that has one gives.
-const REFUSALS: [(&[u8], &[u8], &[u8], &[u8]); 22] = [
+const REFUSALS: [(&[u8], &[u8], &[u8], &[u8]); 19] = [
     (
         b"property cost : cost; #",
         b"[]",
@@ -105,24 +105,6 @@ const REFUSALS: [(&[u8], &[u8], &[u8], &[u8]); 22] = [
         b"{}",
         b"",
         b"refused rules BadSyntax 16\n",
-    ),
-    (
-        b"property cost : cost;",
-        b"{ }",
-        b"",
-        b"refused catalog Unbuilt\n",
-    ),
-    (
-        TWO_SCANS,
-        b"",
-        b"RET(file emp)",
-        b"refused catalog Unbuilt\n",
-    ),
-    (
-        TWO_SCANS,
-        b"{\"files\":{}}",
-        b"#",
-        b"refused catalog Unbuilt\n",
     ),
     (TWO_SCANS, b"{}", b"", b"refused query BadSyntax 0\n"),
     (

@@ -1,7 +1,7 @@
 // The printer of a rule set.
 ghost use Rattle.std.specs.Prelude.{◌≡◌, ◌++◌, OnOk};
 ghost use Rattle.rule_syntax.specs.SeenRules.{seen_rules};
-ghost use Rattle.rule_syntax.specs.Spaced.{spaced};
+ghost use Rattle.pr_value.specs.TokenTexts.{spaced};
 ghost use Rattle.rule_syntax.specs.Tokens.{tokens_of};
 
 use crate::printing::sections::{

@@ -1,6 +1,7 @@
 // The text of tokens.
 ghost use Rattle.std.specs.Prelude.{◌≡◌, ◌++◌, codes, OnOk};
-ghost use Rattle.rule_syntax.specs.Spaced.{before_part, spaced};
+ghost use Rattle.pr_value.specs.TokenTexts.{spaced};
+ghost use Rattle.rule_syntax.specs.Separators.{before_part};
 
 use pr_value::{Memory, Text, Token, push_token};
 use std::alloc::Global;

@@ -1,7 +1,7 @@
 // The printers of one token or two.
 ghost use Rattle.std.specs.Prelude.{◌≡◌, ◌++◌, true, OnOk};
 ghost use Rattle.pr_value.specs.Symbols.{is_symbol};
-ghost use Rattle.rule_syntax.specs.Spaced.{before_part};
+ghost use Rattle.rule_syntax.specs.Separators.{before_part};
 ghost use Rattle.rule_syntax.specs.Tokens as text;
 
 use crate::expr::{BinOp, FoldKind};

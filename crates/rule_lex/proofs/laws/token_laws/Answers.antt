@@ -1,4 +1,5 @@
 use Rattle.rule_lex.proofs.LexesLaws.{only, none, one_fault}
+use Rattle.rule_lex.proofs.SpacedLaws.{spaced_lexes}
 use Rattle.rule_lex.proofs.laws.token_laws.Goals as goal
 
 pub returns-clause-one_list : goal.returns-clause-one_list
@@ -9,3 +10,6 @@ returns-clause-one_fault c = one_fault
 
 pub returns-clause-never_both : goal.returns-clause-never_both
 returns-clause-never_both c text ts e l r = none text e r ts l
+
+pub returns-clause-spaced : goal.returns-clause-spaced
+returns-clause-spaced c = spaced_lexes

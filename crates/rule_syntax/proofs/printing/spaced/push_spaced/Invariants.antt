@@ -1,5 +1,5 @@
 use Rattle.std.proofs.Common.{◌≡◌, ◌++◌, take}
-use Rattle.rule_syntax.specs.Spaced.{spaced}
+use Rattle.pr_value.specs.TokenTexts.{spaced}
 use Rattle.rule_syntax.proofs.printing.spaced.push_spaced.Given as goal
 
 abbrev pub invariant-loop-i : goal.invariant-loop-i

@@ -1,0 +1,7 @@
+mod FileLaws
+mod PartLaws
+mod RowLaws
+mod SearchLaws
+mod TableLaws
+mod ValueLaws
+pub mod ShapeLaws

@@ -1,0 +1,5 @@
+pub mod FitLaws
+pub mod PlaceLaws
+mod Rows
+pub mod SeenLaws
+pub mod StepLaws
