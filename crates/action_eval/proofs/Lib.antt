@@ -1,0 +1,22 @@
+mod BuiltinRows
+pub mod CostLaws
+pub mod CostParts
+pub mod CostTypes
+pub mod DescLaws
+pub mod EvalLaws
+pub mod FoldLaws
+pub mod FormCases
+pub mod FormLaws
+mod FormRows
+pub mod FunctionLaws
+pub mod HelperLaws
+pub mod KindLaws
+mod LayoutLaws
+pub mod PlainLaws
+pub mod ReadLaws
+pub mod SeenFormLaws
+pub mod Sizes
+pub mod StatementLaws
+pub mod TypeLaws
+mod ValueRows
+pub mod WithCostLaws

@@ -1,0 +1,17 @@
+ghost use Rattle.std.specs.Prelude.{◌≡◌};
+ghost use Rattle.action_eval.specs.Forms.{names_of, place};
+
+use pr_value::Symbol;
+use rule_syntax::ImplIn;
+
+/// The place of the input with a descriptor of that name, from 0.
+pub fn place_of(inputs: &[ImplIn], desc: &Symbol) -> usize
+    ensures { result ≡ place (names_of inputs.now) desc.now }
+{
+    for (place, input) in inputs.iter().enumerate() {
+        if input.desc == *desc {
+            return place;
+        }
+    }
+    inputs.len()
+}

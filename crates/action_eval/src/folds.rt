@@ -1,0 +1,104 @@
+// What a fold makes of the values that its body has at the members.
+ghost use Rattle.std.specs.Prelude.{◌≡◌, ◌≤◌, true, IfOk};
+ghost use Rattle.std.specs.List.{list_all, list_any};
+ghost use Rattle.pr_value.specs.Capped.{cap};
+ghost use Rattle.pr_value.specs.Values.{is_capped, members_in, truth_in};
+ghost use Rattle.action_eval.specs.Builtins.{collection};
+ghost use Rattle.action_eval.specs.Folds.{total_of, product_of, kept_of, fold_of};
+
+use crate::collections::list_of;
+use crate::parts::{number_in, truth_at, truth_in};
+use pr_value::{Memory, SymSet, Symbol, Value, cap_add, cap_mul};
+use rule_syntax::FoldKind;
+use std::alloc::Global;
+
+/// The fold over a set or a list, from the value at each member in order.
+pub fn folded(
+    alloc: Global,
+    fold: FoldKind,
+    over: &Value,
+    values: &[Value],
+) -> Result<Value, Memory>
+    requires capped { list_all is_capped values.now ≡ true }
+    ensures value { IfOk result (λ v. v ≡ fold_of fold over.now values.now) }
+    ensures capped { IfOk result (λ v. is_capped v ≡ true) }
+{
+    match fold {
+        FoldKind::Sum => Ok(Value::Num(total(values))),
+        FoldKind::Product => Ok(Value::Num(product(values))),
+        FoldKind::Any => Ok(Value::Truth(some_true(values))),
+        FoldKind::All => Ok(Value::Truth(all_true(values))),
+        FoldKind::Keep => keep(alloc, over, values),
+    }
+}
+
+fn total(values: &[Value]) -> u64
+    requires capped { list_all is_capped values.now ≡ true }
+    ensures value { result ≡ total_of values.now 0 }
+    ensures within { result ≤ cap }
+{
+    let mut sum = 0;
+    let mut rest = values;
+    while let Some((value, before)) = rest.split_last() {
+        sum = cap_add(number_in(value), sum);
+        rest = before;
+    }
+    sum
+}
+
+fn product(values: &[Value]) -> u64
+    requires capped { list_all is_capped values.now ≡ true }
+    ensures value { result ≡ product_of values.now 1 }
+    ensures within { result ≤ cap }
+{
+    let mut product = 1;
+    let mut rest = values;
+    while let Some((value, before)) = rest.split_last() {
+        product = cap_mul(number_in(value), product);
+        rest = before;
+    }
+    product
+}
+
+fn some_true(values: &[Value]) -> bool
+    ensures { result ≡ list_any truth_in values.now }
+{
+    values.iter().any(|v| truth_in(v))
+}
+
+fn all_true(values: &[Value]) -> bool
+    ensures { result ≡ list_all truth_in values.now }
+{
+    values.iter().all(|v| truth_in(v))
+}
+
+/// The set or the list of the members beside which a truth holds.
+fn keep(alloc: Global, over: &Value, values: &[Value]) -> Result<Value, Memory>
+    ensures value { IfOk result (λ v. v ≡ collection over.now (kept_of (members_in over.now) values.now)) }
+    ensures capped { IfOk result (λ v. is_capped v ≡ true) }
+{
+    match over {
+        Value::List(list) => {
+            let members = kept(alloc, list.as_slice(), values)?;
+            Ok(Value::List(list_of(alloc, members.as_slice())?))
+        }
+        Value::Set(set) => {
+            let members = kept(alloc, set.as_slice(), values)?;
+            Ok(Value::Set(SymSet::from_symbols(alloc, members)?))
+        }
+        _ => Ok(Value::Set(SymSet::new(alloc))),
+    }
+}
+
+fn kept(alloc: Global, members: &[Symbol], values: &[Value]) -> Result<Vec<Symbol>, Memory>
+    ensures { IfOk result (λ ss. ss.items ≡ kept_of members.now values.now) }
+{
+    let mut kept = Vec::new(alloc);
+    for (i, member) in members.iter().enumerate() {
+        if !truth_at(values, i) {
+            continue;
+        }
+        kept.push(member.copy(alloc)?)?;
+    }
+    Ok(kept)
+}

@@ -1,0 +1,95 @@
+ghost use Rattle.std.specs.Prelude.{◌≡◌, map, option_map, IfOk};
+ghost use Rattle.rule_syntax.specs.Seen.{seen_expr, exprs_of, seen_helper};
+ghost use Rattle.rule_syntax.specs.Typing.{type_of, signatures_of};
+ghost use Rattle.rule_types.specs.Contexts.{seen_context};
+ghost use Rattle.rule_types.specs.Scopes.{type_in, types_in};
+
+use crate::calls::call_type;
+use crate::context::{Context, Names, Scope};
+use crate::names::{read_type, var_type};
+use crate::operators::{binary_type, fold_type, number_type, of_symbols};
+use pr_value::{Kind, Memory};
+use rule_syntax::{Expr, Helper, Property};
+use std::alloc::Global;
+
+#[cycle(typing)]
+fn type_in(alloc: Global, scope: &Scope, names: &Names, e: &Expr) -> Result<Option<Kind>, Memory>
+    ensures { IfOk result (λ t. t ≡ type_in scope.now names.now (seen_expr e.now)) }
+{
+    match e {
+        Expr::Number(n) => Ok(number_type(*n)),
+        Expr::Truth(_) => Ok(Some(Kind::Truth)),
+        Expr::Sym(_) => Ok(Some(Kind::Symbol)),
+        Expr::SetOf(members) => {
+            let types = types_in(alloc, scope, names, members.as_slice())?;
+            Ok(of_symbols(Kind::Set, types))
+        }
+        Expr::ListOf(members) => {
+            let types = types_in(alloc, scope, names, members.as_slice())?;
+            Ok(of_symbols(Kind::List, types))
+        }
+        Expr::Var(x) => Ok(var_type(names, x)),
+        Expr::Read { desc, property } => Ok(read_type(scope, desc, property)),
+        Expr::Call { name, args } => {
+            let types = types_in(alloc, scope, names, args.as_slice())?;
+            Ok(call_type(scope.helpers, name, types))
+        }
+        Expr::Binary { left, op, right } => {
+            let left = type_in(alloc, scope, names, left.get())?;
+            let right = type_in(alloc, scope, names, right.get())?;
+            Ok(binary_type(*op, left, right))
+        }
+        Expr::Fold {
+            fold,
+            name,
+            over,
+            body,
+        } => {
+            let over = type_in(alloc, scope, names, over.get())?;
+            let within = Names::Member {
+                name,
+                others: &*names,
+            };
+            let body = type_in(alloc, scope, &within, body.get())?;
+            Ok(fold_type(*fold, over, body))
+        }
+    }
+}
+
+#[cycle(typing)]
+fn types_in(
+    alloc: Global,
+    scope: &Scope,
+    names: &Names,
+    es: &[Expr],
+) -> Result<Option<Vec<Kind>>, Memory>
+    ensures { IfOk result (λ ts. option_map (λ v. v.items) ts ≡ types_in scope.now names.now (exprs_of (map seen_expr es.now))) }
+{
+    let mut types = Vec::with_capacity(alloc, es.len())?;
+    for e in es {
+        match type_in(alloc, scope, names, e)? {
+            Some(kind) => types.push(kind)?,
+            None => return Ok(None),
+        }
+    }
+    Ok(Some(types))
+}
+
+/// The type of an expression, if it is well typed. A cost counts as a number.
+pub fn type_of(
+    alloc: Global,
+    properties: &[Property],
+    helpers: &[Helper],
+    context: &Context,
+    e: &Expr,
+) -> Result<Option<Kind>, Memory>
+    ensures { IfOk result (λ t. t ≡ type_of properties.now (signatures_of (map seen_helper helpers.now)) (seen_context context.now) (seen_expr e.now)) }
+{
+    let scope = Scope {
+        properties,
+        helpers,
+        descs: context.descs,
+    };
+    let kind = type_in(alloc, &scope, &Names::Params(context.vars), e)?;
+    Ok(kind)
+}
