@@ -1,8 +1,10 @@
 mod catalogs;
+mod costs;
 mod faults;
 mod plans;
 mod printing;
 mod refusals;
 mod scripts;
 mod texts;
+mod values;
 mod words;
