@@ -8,6 +8,9 @@ add-past = refl
 sub-below : capped_sub 3 5 ≡ 0
 sub-below = refl
 
+sub-past : capped_sub 18_446_744_073_709_551_615 1 ≡ cap
+sub-past = refl
+
 mul-at : capped_mul 1_000_000_000 1_000_000_000 ≡ cap
 mul-at = refl
 
@@ -16,6 +19,9 @@ mul-past = refl
 
 div-down : capped_div 7 2 ≡ 3
 div-down = refl
+
+div-past : capped_div 18_446_744_073_709_551_615 1 ≡ cap
+div-past = refl
 
 div-zero : (m : ℕ) → capped_div m 0 ≡ cap
 div-zero m = refl
@@ -39,3 +45,7 @@ log2-at = refl
 log2-cap : log2 cap ≡ 59
 unfolding log2_up_to
 log2-cap = refl
+
+log2-most : log2 18_446_744_073_709_551_615 ≡ 63
+unfolding log2_up_to
+log2-most = refl

@@ -29,15 +29,15 @@ log2_up_to-is (suc n) x k small low high =
       ]
     ] refl
 
--- a number of at most 10^18 reaches no power past the 59th
-pub log2-small : (x k : ℕ) → x ≤ 1_000_000_000_000_000_000 → 2 ^ k ≤ x → k < 60
+-- a number below 2^64 reaches no power past the 63rd
+pub log2-small : (x k : ℕ) → x < 2 ^ 64 → 2 ^ k ≤ x → k < 64
 log2-small x k small low =
-    elim (cases_lt k 60) [
+    elim (cases_lt k 64) [
       | inl below ↦ below
       | inr above ↦
-          let step : 2 ^ 60 ≤ 2 ^ k = pow_mono above in
+          let step : 2 ^ 64 ≤ 2 ^ k = pow_mono above in
           absurd (omega arith)
     ]
 
-pub log2-is : (x k : ℕ) → x ≤ 1_000_000_000_000_000_000 → 2 ^ k ≤ x → x < 2 * 2 ^ k → k ≡ log2 x
-log2-is x k small low high = sym (log2_up_to-is 60 x k (omega (arith, log2-small x k small low)) low high)
+pub log2-is : (x k : ℕ) → x < 2 ^ 64 → 2 ^ k ≤ x → x < 2 * 2 ^ k → k ≡ log2 x
+log2-is x k small low high = sym (log2_up_to-is 63 x k (omega (arith, log2-small x k small low)) low high)

@@ -11,12 +11,12 @@ use Rattle.std.proofs.lemmas.Bool.{false≢true}
 use Rattle.pr_value.proofs.OrderLaws.{compare_symbols-reversed, same_from_compare_symbols}
 use Rattle.pr_value.proofs.SetLaws.{ascends-first, ascends-rest, ascends-insert, contains-before}
 
-or_swap : (p q r : Bool) → (p || (q || r)) ≡ (q || (p || r))
+pub or_swap : (p q r : Bool) → (p || (q || r)) ≡ (q || (p || r))
 or_swap true true r = refl
 or_swap true false r = refl
 or_swap false q r = refl
 
-or_assoc : (p q r : Bool) → (p || (q || r)) ≡ ((p || q) || r)
+pub or_assoc : (p q r : Bool) → (p || (q || r)) ≡ ((p || q) || r)
 or_assoc true q r = refl
 or_assoc false q r = refl
 

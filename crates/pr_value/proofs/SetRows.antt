@@ -1,7 +1,8 @@
 -- Small sets of symbols.
-use Rattle.std.proofs.Common.{◌≡◌, true, false, List, [], ◌∷◌, refl}
+use Rattle.std.proofs.Common.{◌≡◌, true, false, List, [], ◌∷◌, None, Some, refl}
 use Rattle.std.specs.Prelude.{codes}
 use Rattle.pr_value.specs.Symbols.{Symbol, dash}
+use Rattle.pr_value.specs.Repeats.{are_distinct, first_repeated}
 use Rattle.pr_value.specs.SymbolSets.{is_before, ascends, contains, insert, set_of, union, meet, minus, subset, same_list}
 
 abbrev a : Symbol
@@ -66,3 +67,16 @@ subset-less = refl
 
 same_list-shorter : same_list (a ∷ []) (a ∷ b ∷ []) ≡ false
 same_list-shorter = refl
+
+are_distinct-two : are_distinct (b ∷ a ∷ []) ≡ true
+are_distinct-two = refl
+
+are_distinct-again : are_distinct (a ∷ b ∷ a ∷ []) ≡ false
+are_distinct-again = refl
+
+first_repeated-none : first_repeated (b ∷ a ∷ ab ∷ []) ≡ None
+first_repeated-none = refl
+
+-- the later of the two that are equal, and the first such
+first_repeated-third : first_repeated (a ∷ b ∷ b ∷ a ∷ []) ≡ Some 2
+first_repeated-third = refl

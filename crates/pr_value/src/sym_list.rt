@@ -1,9 +1,15 @@
+ghost use Rattle.std.specs.Cmp.{decided, partial_equiv_from_equiv};
+ghost use Rattle.std.specs.Hash.{same_Alike};
 ghost use Rattle.std.specs.Prelude.{◌≡◌, ◌<◌, [], ◌∷◌, ◌++◌, Some, length, slice_get, IfOk, OnOk, OnErr};
+ghost use Rattle.pr_value.specs.Hashed.{hashed_symbols};
+ghost use Rattle.pr_value.specs.SymbolSets.{same_list};
+ghost use Rattle.pr_value.specs.EqualityLaws.{same_list-Decides};
 
 use crate::memory::Memory;
 use crate::symbol::Symbol;
-use crate::symbols::copy_symbols;
+use crate::symbols::{copy_symbols, same_symbols};
 use std::alloc::Global;
+use std::hash::{Hash, Hasher};
 use std::marker::Model;
 
 /// A list of symbols.
@@ -75,5 +81,29 @@ impl SymList {
     {
         let symbols = copy_symbols(alloc, self.symbols.as_slice())?;
         Ok(SymList { symbols })
+    }
+}
+
+impl PartialEq for SymList {
+    ghost eq = { same_list };
+
+    ghost laws = { partial_equiv_from_equiv (decided same_list same_list-Decides) };
+
+    fn eq(&self, other: &SymList) -> bool {
+        same_symbols(self.as_slice(), other.as_slice())
+    }
+}
+
+impl Eq for SymList {
+    ghost laws = { decided same_list same_list-Decides };
+}
+
+impl Hash for SymList {
+    ghost hash_input = { hashed_symbols };
+
+    ghost respects_eq = { (same_Alike hashed_symbols same_list-Decides).fed };
+
+    fn hash<H: Hasher>(&self, state: &mut H) {
+        self.symbols.hash(state);
     }
 }

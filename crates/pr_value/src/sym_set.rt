@@ -1,10 +1,15 @@
+ghost use Rattle.std.specs.Cmp.{decided, partial_equiv_from_equiv};
+ghost use Rattle.std.specs.Hash.{same_Alike};
 ghost use Rattle.std.specs.Prelude.{◌≡◌, ◌<◌, ◌≤◌, [], ◌∷◌, ◌++◌, true, false, Some, ◌↔◌, length, take, drop, slice_get, IfOk, IfErr, IfSome, IsNone, OnOk, OnErr};
-ghost use Rattle.pr_value.specs.SymbolSets.{ascends, contains, insert, set_of, union, meet, minus, subset};
+ghost use Rattle.pr_value.specs.SymbolSets.{ascends, contains, insert, set_of, union, meet, minus, subset, same_list};
+ghost use Rattle.pr_value.specs.Hashed.{hashed_symbols};
+ghost use Rattle.pr_value.specs.EqualityLaws.{same_list-Decides};
 
 use crate::memory::Memory;
 use crate::symbol::Symbol;
-use crate::symbols::copy_symbols;
+use crate::symbols::{copy_symbols, same_symbols};
 use std::alloc::Global;
+use std::hash::{Hash, Hasher};
 use std::marker::Model;
 
 /// A set of symbols, which contracts see as the list of its members, ascending by bytes.
@@ -164,5 +169,29 @@ impl SymSet {
     {
         let members = copy_symbols(alloc, self.members.as_slice())?;
         Ok(SymSet { members })
+    }
+}
+
+impl PartialEq for SymSet {
+    ghost eq = { same_list };
+
+    ghost laws = { partial_equiv_from_equiv (decided same_list same_list-Decides) };
+
+    fn eq(&self, other: &SymSet) -> bool {
+        same_symbols(self.as_slice(), other.as_slice())
+    }
+}
+
+impl Eq for SymSet {
+    ghost laws = { decided same_list same_list-Decides };
+}
+
+impl Hash for SymSet {
+    ghost hash_input = { hashed_symbols };
+
+    ghost respects_eq = { (same_Alike hashed_symbols same_list-Decides).fed };
+
+    fn hash<H: Hasher>(&self, state: &mut H) {
+        self.members.hash(state);
     }
 }

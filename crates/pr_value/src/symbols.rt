@@ -1,5 +1,5 @@
 ghost use Rattle.std.specs.Prelude.{◌≡◌, ◌↔◌, IsTrue, IfOk};
-ghost use Rattle.pr_value.specs.SymbolSets.{same_list};
+ghost use Rattle.pr_value.specs.SymbolSets.{contains, same_list};
 
 use crate::memory::Memory;
 use crate::symbol::Symbol;
@@ -16,6 +16,14 @@ pub fn copy_symbols(alloc: Global, symbols: &[Symbol]) -> Result<Vec<Symbol>, Me
     Ok(copies)
 }
 
+/// Whether the symbol is one of these.
+pub fn contains(symbols: &[Symbol], symbol: &Symbol) -> bool
+    ensures { result ≡ contains symbols.now symbol.now }
+{
+    symbols.iter().any(|known| *symbol == *known)
+}
+
+/// Whether these are the same symbols in the same order.
 pub fn same_symbols(a: &[Symbol], b: &[Symbol]) -> bool
     ensures value { result ≡ same_list a.now b.now }
     ensures equal { IsTrue result ↔ (a.now ≡ b.now) }
