@@ -1,2 +1,4 @@
 mod Newest
 mod Parts
+mod StreamLaws
+mod RoomLaws

@@ -2,6 +2,8 @@ pub mod Counts
 pub mod Fetched
 pub mod Files
 pub mod Kept
+pub mod Room
 pub mod ShelfState
 pub mod SinkState
+pub mod Streams
 pub mod Written

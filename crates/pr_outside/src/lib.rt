@@ -9,6 +9,7 @@ mod mem_sink;
 mod name;
 mod shelf;
 mod sink;
+mod streams;
 mod sure_shelf;
 mod sure_sink;
 
@@ -18,8 +19,6 @@ pub use mem_sink::MemSink;
 pub use name::Name;
 pub use shelf::{FetchError, Shelf};
 pub use sink::{PutError, Sink};
+pub use streams::{ReadError, read_up_to, write_whole};
 pub use sure_shelf::SureShelf;
 pub use sure_sink::SureSink;
-
-#[cfg(test)]
-mod tests;

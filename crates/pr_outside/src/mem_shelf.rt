@@ -94,7 +94,7 @@ impl Shelf for MemShelf {
         ensures held { Some self.new.files ≡ Some self.old.files }
         ensures sure { false ≡ false }
         ensures counted { Counts self.old.faults self.new.faults }
-        ensures bytes { IfOk result (λ bytes. GivesHeld (Some self.old.files) name.now most bytes) }
+        ensures bytes { IfOk result (λ bytes. GivesHeld (Some self.old.files) name.now most 0 bytes) }
         ensures too_long { IsErrOf result FetchError.TooLong → IsTooLong (Some self.old.files) name.now most 0 }
         ensures may_fail { IsErrOf result FetchError.Failed → MayFail (Some self.old.files) false name.now most }
         ensures rose { IsErrOf result FetchError.Failed → Rose self.old.faults self.new.faults }

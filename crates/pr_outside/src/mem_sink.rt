@@ -1,4 +1,4 @@
-ghost use Rattle.std.specs.Prelude.{◌≡◌, ◌≢◌, ◌<◌, ◌≤◌, ◌-◌, ◌^◌, [], ◌++◌, Some, OnOk, OnErr, IsErrOf};
+ghost use Rattle.std.specs.Prelude.{◌≡◌, ◌≢◌, ◌+◌, ◌<◌, ◌≤◌, ◌-◌, ◌^◌, [], ◌++◌, Some, None, length, take, vec_len, vec_capacity, OnOk, OnErr, IsErrOf};
 ghost use Rattle.std.specs.Ordering.{nat_cmp};
 ghost use Rattle.std.specs.FinMap as map;
 ghost use Rattle.pr_outside.specs.Counts as counts;
@@ -20,10 +20,14 @@ pub struct MemSink {
     calls: u64,
     failing: VecDeque<(u64, usize)>,
     faults: u64,
+    // Room for as many bytes as listed puts will take is kept free in `written`.
+    kept: usize,
 }
 
 impl Model for MemSink {
     ghost use Rattle.std.specs.FinMap as map;
+    ghost use Rattle.std.specs.Prelude.{vec_len, vec_capacity};
+    ghost use Rattle.pr_outside.specs.Room.{KeepsRoom};
     ghost use Rattle.pr_outside.specs.SinkState.{SinkState, sink_code};
 
     ghost Value = { SinkState };
@@ -31,6 +35,8 @@ impl Model for MemSink {
     ghost coded = { sink_code };
 
     ghost view = { λ s. record { written = s.written.items; calls = s.calls; failing = map.from_entries s.failing.items; faults = s.faults } };
+
+    ghost invariant = { λ s. KeepsRoom s.calls s.failing.items s.kept (vec_len s.written) (vec_capacity s.written) };
 }
 
 impl MemSink {
@@ -43,18 +49,24 @@ impl MemSink {
             calls: 0,
             failing: VecDeque::new(alloc),
             faults: 0,
+            kept: 0,
         }
     }
 
     /// Lists a put, counted from 1, as one that fails after it took this many bytes, or the whole piece where that is shorter.
-    /// A later listing of the same put replaces an earlier one.
+    /// A later listing of the same put replaces an earlier one. Room for these bytes is kept from now on.
     pub fn fail_at(&mut self, call: u64, taken: usize) -> Result<(), Memory>
         requires low { 1 ≤ call }
         requires high { call < 2 ^ 64 - 1 }
         ensures ok { OnOk result (self.new ≡ record self.old { failing = map.insert self.old.failing call taken }) }
         ensures err { OnErr result (self.new ≡ self.old) }
     {
+        let Some(kept) = self.kept.checked_add(taken) else {
+            return Err(Memory);
+        };
+        self.written.reserve(kept)?;
         self.failing.push_front((call, taken))?;
+        self.kept = kept;
         Ok(())
     }
 
@@ -79,13 +91,40 @@ fn taken_at(failing: &VecDeque<(u64, usize)>, call: u64) -> Option<usize>
 }
 
 /// What is appended of a piece.
-fn part(taken: Option<usize>, piece: &[u8]) -> &[u8]
-    ensures { result.now ≡ appended taken piece.now }
+fn part(taken: usize, piece: &[u8]) -> &[u8]
+    ensures part { result.now ≡ take taken piece.now }
+    ensures within { length result.now ≤ taken }
 {
-    match taken {
-        Some(taken) if taken < piece.len() => &piece[..taken],
-        _ => piece,
+    if taken < piece.len() {
+        &piece[..taken]
+    } else {
+        piece
     }
+}
+
+/// Appends the piece, and leaves room for as many bytes as are kept.
+fn append(written: &mut Vec<u8>, kept: usize, piece: &[u8]) -> Result<(), Memory>
+    requires { vec_len written.old + kept ≤ vec_capacity written.old }
+    ensures ok { OnOk result (written.new.items ≡ written.old.items ++ piece.now) }
+    ensures err { OnErr result (written.new.items ≡ written.old.items) }
+    ensures room { vec_len written.new + kept ≤ vec_capacity written.new }
+{
+    let Some(room) = kept.checked_add(piece.len()) else {
+        return Err(Memory);
+    };
+    written.reserve(room)?;
+    written.extend_from_slice(piece)?;
+    Ok(())
+}
+
+/// Appends bytes for which there is room.
+fn append_kept(written: &mut Vec<u8>, kept: usize, part: &[u8])
+    requires room { vec_len written.old + kept ≤ vec_capacity written.old }
+    requires within { length part.now ≤ kept }
+    ensures all { written.new.items ≡ written.old.items ++ part.now }
+    ensures room { vec_len written.new + (kept - length part.now) ≤ vec_capacity written.new }
+{
+    let _ = written.extend_from_slice(part);
 }
 
 impl Sink for MemSink {
@@ -93,7 +132,7 @@ impl Sink for MemSink {
 
     ghost faults = { λ s. s.faults };
 
-    /// `Failed` comes exactly at a listed call that has memory for what it takes, and counts one fault.
+    /// `Failed` comes exactly at a listed call, and counts one fault.
     /// Each call is counted, also one that answers `Memory`. The count of calls stands still at 2^64 - 1.
     fn put(&mut self, _alloc: Global, piece: &[u8]) -> Result<(), PutError>
         ensures counted { Counts self.old.faults self.new.faults }
@@ -106,17 +145,19 @@ impl Sink for MemSink {
         ensures calls { self.new.calls ≡ counts.one_more self.old.calls }
         ensures failing { self.new.failing ≡ self.old.failing }
         ensures answers { result ≢ Err PutError.Memory → result ≡ put_answer (next_takes self.old) }
+        ensures sure { IsErrOf result PutError.Memory → next_takes self.old ≡ None }
         ensures written { result ≢ Err PutError.Memory → self.new.written ≡ self.old.written ++ appended (next_takes self.old) piece.now }
     {
         let faults = self.faults;
         self.calls = one_more(self.calls);
-        let taken = taken_at(&self.failing, self.calls);
-        if self.written.extend_from_slice(part(taken, piece)).is_err() {
-            return Err(PutError::Memory);
-        }
-        if taken.is_none() {
-            return Ok(());
-        }
+        let Some(taken) = taken_at(&self.failing, self.calls) else {
+            return match append(&mut self.written, self.kept, piece) {
+                Ok(()) => Ok(()),
+                Err(Memory) => Err(PutError::Memory),
+            };
+        };
+        append_kept(&mut self.written, self.kept, part(taken, piece));
+        self.kept -= taken;
         self.faults = one_more(faults);
         Err(PutError::Failed)
     }

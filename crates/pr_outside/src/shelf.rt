@@ -35,7 +35,7 @@ pub trait Shelf {
         ensures held { held self.new ≡ held self.old }
         ensures sure { sure self.new ≡ sure self.old }
         ensures counted { Counts (faults self.old) (faults self.new) }
-        ensures bytes { IfOk result (λ bytes. GivesHeld (held self.old) name.now most bytes) }
+        ensures bytes { IfOk result (λ bytes. GivesHeld (held self.old) name.now most (taken self.new) bytes) }
         ensures too_long { IsErrOf result FetchError.TooLong → IsTooLong (held self.old) name.now most (taken self.new) }
         ensures may_fail { IsErrOf result FetchError.Failed → MayFail (held self.old) (sure self.old) name.now most }
         ensures rose { IsErrOf result FetchError.Failed → Rose (faults self.old) (faults self.new) }

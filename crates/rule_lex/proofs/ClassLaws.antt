@@ -5,6 +5,7 @@ use Rattle.std.specs.Str.{bytes_eq}
 use Rattle.std.proofs.lemmas.Bool.{and_parts, and_from, or_left, or_right, or_cases, both_ways}
 use Rattle.std.proofs.lemmas.Bool.Decides.{nat_tests}
 use Rattle.std.proofs.lemmas.Slice.Eq.{bytes_eq-Decides}
+use Rattle.pr_value.proofs.Shelf.{cons-first, cons-rest}
 use Rattle.pr_value.specs.Symbols.{is_letter, is_digit, is_word, is_word_byte, dash}
 use Rattle.pr_value.specs.declared.token.Token.{Token}
 use Rattle.pr_value.specs.declared.token.Token.TheVariants as token
@@ -27,16 +28,10 @@ pub first_of_mark : (m : Mark) → begins is_other (mark_text m) ≡ true
 first_of_mark mark.OpenBrace = refl
 first_of_mark m = refl
 
-first_same : (a c : ℕ) (xs ys : List ℕ) → a ∷ xs ≡ c ∷ ys → a ≡ c
-first_same a c xs ys e = cc
-
-rest_same : (a c : ℕ) (xs ys : List ℕ) → a ∷ xs ≡ c ∷ ys → xs ≡ ys
-rest_same a c xs ys e = cc
-
 pub first : (a : ℕ) (bs : List ℕ) (u : Token) → Spells (a ∷ bs) u → First a u
 first a bs (token.Name s) h = (and_parts (is_letter a) _ (ap is_word h.0 ∙ h.1)).0
 first a bs (token.Number n) h = (and_parts (is_digit a) _ h.0).0
-first a bs (token.Quoted s) h = first_same a quote bs s h.0
+first a bs (token.Quoted s) h = cons-first a quote bs s h.0
 first a bs (token.Mark m) h = ap (begins is_other) h ∙ first_of_mark m
 
 letter_no_digit : (a : ℕ) → is_letter a ≡ true → is_digit a ≡ true → ⊥
@@ -51,7 +46,7 @@ digit_no_quote a d e = grind (arith, nat_tests)
 word_no_other : (a : ℕ) → is_word_byte a ≡ true → is_other a ≡ true → ⊥
 word_no_other a w o = cc
 
-letter_in_word : (a : ℕ) → is_letter a ≡ true → is_word_byte a ≡ true
+pub letter_in_word : (a : ℕ) → is_letter a ≡ true → is_word_byte a ≡ true
 letter_in_word a l = or_left (is_letter a) (is_digit a) l
 
 digit_in_word : (a : ℕ) → is_digit a ≡ true → is_word_byte a ≡ true
@@ -113,7 +108,7 @@ quoted_more front b more u q n h = by_class u h (first quote (front ++ b ∷ mor
   by_class : (u : Token) → Spells (quote ∷ front ++ b ∷ more) u → First quote u → ⊥
   by_class (token.Name s) h f = cc
   by_class (token.Number k) h f = cc
-  by_class (token.Quoted s) h f = symbol_more front b more q n (ap is_quotable (rest_same quote quote (front ++ b ∷ more) s h.0) ∙ h.1)
+  by_class (token.Quoted s) h f = symbol_more front b more q n (ap is_quotable (cons-rest quote quote (front ++ b ∷ more) s h.0) ∙ h.1)
   by_class (token.Mark m) h f = cc
 
 -- the first byte behind the front does not pass

@@ -4,6 +4,8 @@ use Rattle.std.specs.Prelude.{if◌then◌else◌}
 use Rattle.std.specs.Str.{bytes_eq}
 use Rattle.std.proofs.lemmas.Bool.{and_parts}
 use Rattle.std.proofs.lemmas.Bool.Decides.{nat_tests}
+use Rattle.std.proofs.lemmas.Option.{same_Some}
+use Rattle.pr_value.proofs.Shelf.{cons-first, cons-rest}
 use Rattle.pr_value.specs.Symbols.{is_letter, is_digit, is_word}
 use Rattle.pr_value.specs.declared.token.Token.{Token}
 use Rattle.pr_value.specs.declared.token.Token.TheVariants as token
@@ -27,11 +29,8 @@ found : (m : Mark) → find_mark marks (mark_text m) ≡ Some m
 found mark.OpenBrace = refl
 found m = refl
 
-some_same : {A : Type 0} (x y : A) → Some x ≡ Some y → x ≡ y
-some_same x y e = cc
-
 pub one_mark : (m n : Mark) → mark_text m ≡ mark_text n → m ≡ n
-one_mark m n e = some_same m n (sym (found m) ∙ (ap (find_mark marks) e ∙ found n))
+one_mark m n e = same_Some m n (sym (found m) ∙ (ap (find_mark marks) e ∙ found n))
 
 -- names begin with a letter, numbers with a digit, quoted symbols with the quote
 abbrev kind_of_first : ℕ → ℕ
@@ -68,13 +67,10 @@ spelled_kind bytes (token.Number n) h = numeral_kind bytes h.0
 spelled_kind bytes (token.Quoted s) h = ap kind_of_text h.0
 spelled_kind bytes (token.Mark m) h = ap kind_of_text h ∙ mark_kind m
 
-rest_same : (a c : ℕ) (xs ys : List ℕ) → a ∷ xs ≡ c ∷ ys → xs ≡ ys
-rest_same a c xs ys e = cc
-
 one_of_kind : (bytes : List ℕ) (t u : Token) → kind_of_token t ≡ kind_of_token u → Spells bytes t → Spells bytes u → t ≡ u
 one_of_kind bytes (token.Name s) (token.Name r) e a b = ap (λ (x : List ℕ). token.Name x) (sym a.0 ∙ b.0)
 one_of_kind bytes (token.Number m) (token.Number n) e a b = ap (λ (x : ℕ). token.Number x) (sym a.1 ∙ b.1)
-one_of_kind bytes (token.Quoted s) (token.Quoted r) e a b = ap (λ (x : List ℕ). token.Quoted x) (rest_same quote quote s r (sym a.0 ∙ b.0))
+one_of_kind bytes (token.Quoted s) (token.Quoted r) e a b = ap (λ (x : List ℕ). token.Quoted x) (cons-rest quote quote s r (sym a.0 ∙ b.0))
 one_of_kind bytes (token.Mark m) (token.Mark n) e a b = ap (λ (x : Mark). token.Mark x) (one_mark m n (sym a ∙ b))
 one_of_kind bytes t u e a b = absurd (omega (arith, e))
 
@@ -97,14 +93,11 @@ one_more a c x r y s e (even f g) = even (cc) g
 one_more a c x r y s e (shorter b more f g) = shorter b more (cc) g
 one_more a c x r y s e (longer b more f g) = longer b more (cc) g
 
-first_same : (a c : ℕ) (xs ys : List ℕ) → a ∷ xs ≡ c ∷ ys → a ≡ c
-first_same a c xs ys e = cc
-
 fronts : (x r y s : List ℕ) → x ++ r ≡ y ++ s → Fronts x r y s
 fronts [] r [] s e = even refl e
 fronts [] r (b ∷ y) s e = shorter b y refl e
 fronts (a ∷ x) r [] s e = longer a x refl (sym e)
-fronts (a ∷ x) r (b ∷ y) s e = one_more a b x r y s (first_same a b (x ++ r) (y ++ s) e) (fronts x r y s (rest_same a b (x ++ r) (y ++ s) e))
+fronts (a ∷ x) r (b ∷ y) s e = one_more a b x r y s (cons-first a b (x ++ r) (y ++ s) e) (fronts x r y s (cons-rest a b (x ++ r) (y ++ s) e))
 
 one_cut : (text : List ℕ) (t u : Token) (r s : List ℕ) (a : IsLexeme text t r) (b : IsLexeme text u s) → Fronts a.front r b.front s → (t ≡ u) × (r ≡ s)
 one_cut text t u r s a b (even f g) = (one_text b.front t u (subst (λ (x : List ℕ). Spells x t) f a.spells) b.spells, g)

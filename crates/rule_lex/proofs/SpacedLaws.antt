@@ -23,7 +23,7 @@ use Rattle.rule_lex.specs.Laws.{SpacedLexes}
 use Rattle.rule_lex.specs.Runs.{begins}
 use Rattle.rule_lex.specs.Steps.{is_other, BeginsSymbol}
 use Rattle.rule_lex.proofs.RunLaws.{passes_within}
-use Rattle.rule_lex.proofs.ClassLaws.{First, first, first_of_mark, name_lexeme, number_lexeme, quoted_lexeme}
+use Rattle.rule_lex.proofs.ClassLaws.{First, first, letter_in_word, first_of_mark, name_lexeme, number_lexeme, quoted_lexeme}
 
 -- ---- decimal digits
 
@@ -59,9 +59,7 @@ behind_blank (Some rest) b more after e = cc
 
 word_run : (s : List ℕ) → is_word s ≡ true → list_all is_word_byte s ≡ true
 word_run [] w = cc
-word_run (b ∷ bs) w = let k = and_parts (is_letter b) _ w in and_from (is_word_byte b) _ (letter_word b k.0) k.1 where
-  letter_word : (c : ℕ) → is_letter c ≡ true → is_word_byte c ≡ true
-  letter_word c e = grind (arith, nat_tests, e)
+word_run (b ∷ bs) w = let k = and_parts (is_letter b) _ w in and_from (is_word_byte b) _ (letter_in_word b k.0) k.1
 
 begins_word : (s rest : List ℕ) → is_word s ≡ true → begins is_letter (s ++ rest) ≡ true
 begins_word [] rest w = cc

@@ -12,6 +12,3 @@ mod runs;
 pub use error::LexError;
 pub use laws::token_laws;
 pub use lexer::tokens;
-
-#[cfg(test)]
-mod tests;

@@ -1,0 +1,10 @@
+use Rattle.std.proofs.Common.{length}
+use Rattle.pr_outside.proofs.StreamLaws.{Wrote}
+use Rattle.pr_outside.proofs.streams.write_whole.Given as goal
+
+-- what is not left was written
+abbrev pub invariant-loop-rest : goal.invariant-loop-rest
+invariant-loop-rest g l = Wrote (g.W.Write.contents l.fn.writer) (g.W.Write.contents l.writer) l.bytes l.rest
+
+abbrev pub decreases-loop-rest : goal.decreases-loop-rest
+decreases-loop-rest g l = length l.rest
