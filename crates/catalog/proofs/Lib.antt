@@ -3,5 +3,4 @@ mod PartLaws
 mod RowLaws
 mod SearchLaws
 mod TableLaws
-mod ValueLaws
 pub mod ShapeLaws

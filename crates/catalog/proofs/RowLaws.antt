@@ -18,13 +18,13 @@ use Rattle.pr_value.specs.SymbolSets.{same_list}
 use Rattle.pr_value.specs.declared.value.Value.{Value}
 use Rattle.pr_value.specs.declared.value.Value.TheVariants as value
 use Rattle.catalog.specs.Contents.{Row, value_at}
-use Rattle.catalog.specs.Errors.{ReadsBy, ReadsEach}
+use Rattle.value_json.specs.Errors.{ReadsBy, ReadsEach}
 use Rattle.catalog.specs.Keys.{compare_keys}
 use Rattle.catalog.specs.Tables.{GivesRows}
 use Rattle.catalog.specs.Shape.{row_in, rows_in}
-use Rattle.catalog.specs.declared.part_error.PartError.{PartError}
-use Rattle.catalog.specs.declared.part_error.PartError.TheVariants as part_error
-use Rattle.catalog.proofs.PartLaws.{Any-cases, Any-nil}
+use Rattle.value_json.specs.declared.part_error.PartError.{PartError}
+use Rattle.value_json.specs.declared.part_error.PartError.TheVariants as part_error
+use Rattle.value_json.proofs.EachLaws.{Any-cases, Any-nil}
 
 -- ---- keys
 

@@ -7,12 +7,13 @@ use Rattle.serde_json.specs.View.{view, members_view}
 use Rattle.serde_json.proofs.Views.{Entry}
 use Rattle.pr_value.specs.Symbols.{Symbol, is_name}
 use Rattle.catalog.specs.Contents.{Row, Table, value_at, rows_of}
-use Rattle.catalog.specs.Errors.{ReadsBy, ReadsEach}
+use Rattle.value_json.specs.Errors.{ReadsBy, ReadsEach}
 use Rattle.catalog.specs.Shape.{table_in, tables_in, is_array, are_arrays}
 use Rattle.catalog.specs.Tables.{GivesTable, GivesTables}
-use Rattle.catalog.specs.declared.part_error.PartError.{PartError}
-use Rattle.catalog.specs.declared.part_error.PartError.TheVariants as part_error
-use Rattle.catalog.proofs.PartLaws.{Any-cases, Any-nil, none_behind}
+use Rattle.value_json.specs.declared.part_error.PartError.{PartError}
+use Rattle.value_json.specs.declared.part_error.PartError.TheVariants as part_error
+use Rattle.value_json.proofs.EachLaws.{Any-cases, Any-nil}
+use Rattle.catalog.proofs.PartLaws.{none_behind}
 
 abbrev pub rows_in_table : Option Table → List Row
 rows_in_table None = []

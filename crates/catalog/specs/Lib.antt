@@ -1,9 +1,7 @@
 pub mod Contents
 pub mod Entries
-pub mod Errors
 pub mod Keys
 pub mod NameLaws
-pub mod Parts
 pub mod Reading
 pub mod Shape
 pub mod Tables

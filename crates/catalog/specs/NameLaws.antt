@@ -5,7 +5,8 @@ use Rattle.serde_json.specs.Data.{Data, null, boolean, number, string, array, ob
 use Rattle.pr_value.specs.Symbols.{Symbol, is_name}
 use Rattle.pr_value.specs.declared.value.Value.{Value}
 use Rattle.catalog.specs.Contents.{Field, File}
-use Rattle.catalog.specs.Shape.{field_in, fields_in, file_in, value_in}
+use Rattle.catalog.specs.Shape.{field_in, fields_in, file_in}
+use Rattle.value_json.specs.Values.{value_in}
 
 made_with_name : {V X : Type 0} (name : X → Symbol) (n : Symbol) (make : V → X) → ((v : V) → name (make v) ≡ n) → (b : Bool) (o : Option V) (x : X) → (if b then option_map make o else None) ≡ Some x → name x ≡ n
 made_with_name name n make named true (Some v) x e = let same : make v ≡ x = cc in sym (ap name same) ∙ named v

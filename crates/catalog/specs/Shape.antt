@@ -1,14 +1,11 @@
 -- The JSON values that are catalogs, and what each says.
 use Rattle.std.specs.Prelude.{◌≡◌, ℕ, Bool, true, false, not, ◌&&◌, nat_le, List, [], ◌∷◌, length, codes, Option, Some, None, option_map, option_and_then, is_some, if◌then◌else◌, IsUtf8}
 use Rattle.std.specs.Str.{bytes_eq}
-use Rattle.serde_json.specs.Data.{unsigned, Data, boolean, number, string, array, object, Items, no_items, item, Members, no_members, member}
+use Rattle.serde_json.specs.Data.{Data, array, object, Items, no_items, item, Members, no_members, member}
 use Rattle.serde_json.specs.Find.{get}
 use Rattle.serde_json.specs.Read.{read}
-use Rattle.pr_value.specs.Capped.{cap}
-use Rattle.pr_value.specs.Symbols.{Symbol, is_name, is_symbol}
-use Rattle.pr_value.specs.SymbolSets.{set_of}
-use Rattle.pr_value.specs.declared.value.Value.{Value}
-use Rattle.pr_value.specs.declared.value.Value.TheVariants as value
+use Rattle.pr_value.specs.Symbols.{Symbol, is_name}
+use Rattle.value_json.specs.Values.{list_in, value_in}
 use Rattle.catalog.specs.Contents.{Field, File, Row, Table, Catalog, value_at, rows_of, lookup}
 use Rattle.catalog.specs.declared.error.CatalogPart.{CatalogPart}
 use Rattle.catalog.specs.declared.error.CatalogPart.TheVariants as part
@@ -16,32 +13,6 @@ use Rattle.catalog.specs.declared.error.CatalogPart.TheVariants as part
 -- the bytes are the text of this JSON value
 abbrev pub IsJson : List ℕ → Data → Type 0
 IsJson bytes d = IsUtf8 bytes × (read bytes ≡ Some d)
-
--- ---- values
-
--- strings that are symbols
-abbrev pub symbols_in : Items → Option (List Symbol)
-symbols_in no_items = Some []
-symbols_in (item (string s) ds) = if is_symbol s then option_map (λ ss. s ∷ ss) (symbols_in ds) else None
-symbols_in (item _ ds) = None
-
-abbrev pub list_in : Data → Option (List Symbol)
-list_in (array ds) = symbols_in ds
-list_in _ = None
-
--- exactly the member `set`, a list of symbols
-abbrev pub set_in : Members → Option (List Symbol)
-set_in (member name d no_members) = if bytes_eq name (codes "set") then list_in d else None
-set_in _ = None
-
--- a whole number up to the cap, a truth, a symbol, a set or a list of symbols
-abbrev pub value_in : Data → Option Value
-value_in (number (unsigned n)) = if nat_le n cap then Some (value.Num n) else None
-value_in (boolean b) = Some (value.Truth b)
-value_in (string s) = if is_symbol s then Some (value.Sym s) else None
-value_in (object ms) = option_map (λ ss. value.Set (set_of ss)) (set_in ms)
-value_in (array ds) = option_map value.List (symbols_in ds)
-value_in _ = None
 
 -- ---- files
 

@@ -6,7 +6,7 @@ ghost use Rattle.std.specs.Str.{bytes_eq};
 ghost use Rattle.pr_value.specs.Symbols.{Symbol as Name};
 ghost use Rattle.pr_value.specs.SymbolSets.{compare_symbols};
 
-use pr_value::Symbol;
+use pr_value::{Memory, Symbol};
 use std::alloc::Global;
 use std::cmp::Ordering;
 use std::marker::Model;
@@ -17,6 +17,10 @@ pub(crate) trait Named: Drop {
 
     fn name(&self) -> &Symbol
         ensures { result.now ≡ name self.now };
+
+    /// An equal item.
+    fn copy(&self, alloc: Global) -> Result<Self, Memory>
+        ensures { IfOk result (λ x. x ≡ self.now) };
 }
 
 /// Items with names, which differ and ascend by bytes.
@@ -70,5 +74,16 @@ impl<T: Named> ByName<T> {
         ensures { option_copied result ≡ find (λ x. bytes_eq (T.name x) name.now) self.now }
     {
         find_named(self.items.as_slice(), name)
+    }
+
+    /// An equal list.
+    pub(crate) fn copy(&self, alloc: Global) -> Result<ByName<T>, Memory>
+        ensures { IfOk result (λ b. b ≡ self.now) }
+    {
+        let mut items = Vec::with_capacity(alloc, self.items.len())?;
+        for item in self.items.as_slice() {
+            items.push(item.copy(alloc)?)?;
+        }
+        Ok(ByName { items })
     }
 }

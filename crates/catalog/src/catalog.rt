@@ -1,4 +1,4 @@
-ghost use Rattle.std.specs.Prelude.{◌≡◌, [], None, true, is_some, IfSome};
+ghost use Rattle.std.specs.Prelude.{◌≡◌, [], None, true, is_some, IfOk, IfSome};
 ghost use Rattle.std.specs.Option.{option_copied};
 ghost use Rattle.pr_value.specs.Values.{is_capped};
 ghost use Rattle.catalog.specs.Contents.{entry, entry_in, lookup};
@@ -8,7 +8,7 @@ use crate::by_name::ByName;
 use crate::fields::Fields;
 use crate::files::File;
 use crate::tables::Table;
-use pr_value::{Symbol, Value};
+use pr_value::{Memory, Symbol, Value};
 use std::alloc::Global;
 use std::marker::Model;
 
@@ -44,6 +44,15 @@ fn entry_in<'a>(files: &'a ByName<File>, name: &Symbol) -> FileEntry<'a>
     match files.get(name) {
         Some(file) => FileEntry::Listed(file.fields()),
         None => FileEntry::Unknown,
+    }
+}
+
+fn copy_files(alloc: Global, files: &Option<ByName<File>>) -> Result<Option<ByName<File>>, Memory>
+    ensures { IfOk result (λ fs. fs ≡ files.now) }
+{
+    match files {
+        Some(files) => Ok(Some(files.copy(alloc)?)),
+        None => Ok(None),
     }
 }
 
@@ -90,5 +99,14 @@ impl Catalog {
     {
         let table = self.tables.get(table)?;
         table.rows().get(keys)
+    }
+
+    /// An equal catalog.
+    pub fn copy(&self, alloc: Global) -> Result<Catalog, Memory>
+        ensures { IfOk result (λ c. c ≡ self.now) }
+    {
+        let files = copy_files(alloc, &self.files)?;
+        let tables = self.tables.copy(alloc)?;
+        Ok(Catalog { files, tables })
     }
 }

@@ -1,21 +1,19 @@
-ghost use Rattle.std.specs.Prelude.{◌≡◌, true, IfSome};
+ghost use Rattle.std.specs.Prelude.{◌≡◌, true, IfOk, IfSome};
 ghost use Rattle.std.specs.Option.{option_copied};
 ghost use Rattle.serde_json.specs.View.{members_view};
 ghost use Rattle.pr_value.specs.Values.{is_capped};
 ghost use Rattle.catalog.specs.Contents.{field};
-ghost use Rattle.catalog.specs.Errors.{Reads};
+ghost use Rattle.value_json.specs.Errors.{Reads};
 ghost use Rattle.catalog.specs.Shape.{field_in, fields_in};
 ghost use Rattle.catalog.specs.NameLaws.{field_in-name};
 
 use crate::by_name::{ByName, Named};
 use crate::from_json::{FromMember, members_of};
-use crate::names::name_of;
-use crate::part_error::PartError;
-use crate::value_reading::value_of;
-use pr_value::{Symbol, Value};
+use pr_value::{Memory, Symbol, Value};
 use serde_json::{Map, Value as Json};
 use std::alloc::Global;
 use std::marker::Model;
+use value_json::{PartError, name_of, value_of};
 
 /// A property with its value.
 #[derive(Debug, Drop)]
@@ -41,6 +39,13 @@ impl Named for Field {
 
     fn name(&self) -> &Symbol {
         &self.name
+    }
+
+    fn copy(&self, alloc: Global) -> Result<Field, Memory> {
+        Ok(Field {
+            name: self.name.copy(alloc)?,
+            value: self.value.copy(alloc)?,
+        })
     }
 }
 
@@ -90,5 +95,13 @@ impl Fields {
     {
         let field = self.by_name.get(name)?;
         Some(&field.value)
+    }
+
+    /// Equal properties.
+    pub fn copy(&self, alloc: Global) -> Result<Fields, Memory>
+        ensures { IfOk result (λ f. f ≡ self.now) }
+    {
+        let by_name = self.by_name.copy(alloc)?;
+        Ok(Fields { by_name })
     }
 }

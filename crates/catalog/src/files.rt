@@ -1,18 +1,17 @@
 ghost use Rattle.std.specs.Prelude.{◌≡◌};
 ghost use Rattle.serde_json.specs.View.{members_view};
-ghost use Rattle.catalog.specs.Errors.{Reads};
+ghost use Rattle.value_json.specs.Errors.{Reads};
 ghost use Rattle.catalog.specs.NameLaws.{file_in-name};
 ghost use Rattle.catalog.specs.Shape.{file_in, files_in};
 
 use crate::by_name::{ByName, Named};
 use crate::fields::Fields;
 use crate::from_json::{FromMember, members_of};
-use crate::names::name_of;
-use crate::part_error::PartError;
-use pr_value::Symbol;
+use pr_value::{Memory, Symbol};
 use serde_json::{Map, Value as Json};
 use std::alloc::Global;
 use std::marker::Model;
+use value_json::{PartError, name_of};
 
 /// A file that is listed.
 #[derive(Debug, Drop)]
@@ -34,6 +33,13 @@ impl Named for File {
 
     fn name(&self) -> &Symbol {
         &self.name
+    }
+
+    fn copy(&self, alloc: Global) -> Result<File, Memory> {
+        Ok(File {
+            name: self.name.copy(alloc)?,
+            fields: self.fields.copy(alloc)?,
+        })
     }
 }
 

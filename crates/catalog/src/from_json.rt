@@ -1,22 +1,14 @@
-// Lists of parts, from the arrays and objects of JSON.
-ghost use Rattle.std.specs.Prelude.{◌≡◌, ℕ, List, Option, Some, string_bytes};
+// Lists of parts, from the objects of JSON.
+ghost use Rattle.std.specs.Prelude.{◌≡◌, Option, Some, string_bytes};
 ghost use Rattle.serde_json.specs.Data.{Data};
 ghost use Rattle.serde_json.specs.View.{view};
 ghost use Rattle.pr_value.specs.Symbols.{Symbol as Name};
-ghost use Rattle.catalog.specs.Errors.{ReadsBy, Reads, ReadsEach};
+ghost use Rattle.value_json.specs.Errors.{ReadsBy, ReadsEach};
 
 use crate::by_name::{ByName, Named};
-use crate::part_error::PartError;
 use serde_json::{Map, Value as Json};
 use std::alloc::Global;
-
-/// What an item of an array is read as.
-pub(crate) trait FromItem: Drop {
-    ghost said: { Data → Option Self };
-
-    fn from_item(alloc: Global, json: &Json) -> Result<Self, PartError>
-        ensures { Reads result (said (view json.now)) };
-}
+use value_json::PartError;
 
 /// What a member of an object is read as.
 pub(crate) trait FromMember: Named {
@@ -26,17 +18,6 @@ pub(crate) trait FromMember: Named {
         ensures { ReadsBy (gives name.now (view json.now)) result };
 
     ghost keeps_name: { (n : Name) (d : Data) (x : Self) → gives n d (Some x) → Self.name x ≡ n };
-}
-
-/// Each item.
-pub(crate) fn items_of<T: FromItem>(alloc: Global, items: &[Json]) -> Result<Vec<T>, PartError>
-    ensures { ReadsEach (λ v. v.items) (λ v o. T.said (view v) ≡ o) items.now result }
-{
-    let mut read = Vec::with_capacity(alloc, items.len())?;
-    for item in items {
-        read.push(T::from_item(alloc, item)?)?;
-    }
-    Ok(read)
 }
 
 /// Each member. They come with names that differ and ascend.

@@ -11,10 +11,10 @@ use crate::by_name::ByName;
 use crate::catalog::Catalog;
 use crate::error::{CatalogError, CatalogPart};
 use crate::files::{File, read_files};
-use crate::part_error::PartError;
 use crate::tables::{Table, are_arrays, read_tables};
 use serde_json::Value as Json;
 use std::alloc::Global;
+use value_json::PartError;
 
 fn bad<T>(part: CatalogPart) -> Result<T, CatalogError>
     ensures { IsErrOf result (CatalogError.BadShape part) }

@@ -8,20 +8,17 @@ ghost use Rattle.serde_json.specs.View.{view, items_view};
 ghost use Rattle.pr_value.specs.SymbolSets.{same_list};
 ghost use Rattle.pr_value.specs.Values.{is_capped};
 ghost use Rattle.catalog.specs.Contents.{value_at};
-ghost use Rattle.catalog.specs.Errors.{ReadsAs, ReadsBy};
+ghost use Rattle.value_json.specs.Errors.{ReadsAs, ReadsBy};
 ghost use Rattle.catalog.specs.Keys.{compare_keys};
 ghost use Rattle.catalog.specs.Tables.{GivesRows};
 ghost use Rattle.catalog.specs.Shape.{keys_in, row_in};
 
-use crate::from_json::{FromItem, items_of};
-use crate::members::only_two_members;
-use crate::part_error::PartError;
-use crate::value_reading::{list_of, value_of};
-use pr_value::{Memory, Symbol, Value};
+use pr_value::{Memory, Symbol, Value, copy_symbols};
 use serde_json::Value as Json;
 use std::alloc::Global;
 use std::cmp::Ordering;
 use std::marker::Model;
+use value_json::{FromItem, PartError, items_of, list_of, only_two_members, value_of};
 
 /// A row of a table.
 #[derive(Debug, Drop)]
@@ -40,6 +37,17 @@ impl Model for Row {
     ghost view = { λ r. record { keys = r.keys.items; value = r.value } };
 
     ghost invariant = { λ r. is_capped r.value ≡ true };
+}
+
+impl Row {
+    fn copy(&self, alloc: Global) -> Result<Row, Memory>
+        ensures { IfOk result (λ r. r ≡ self.now) }
+    {
+        Ok(Row {
+            keys: copy_symbols(alloc, self.keys.as_slice())?,
+            value: self.value.copy(alloc)?,
+        })
+    }
 }
 
 /// One to four symbols.
@@ -145,5 +153,16 @@ impl Rows {
     {
         let row = find_row(self.rows.as_slice(), keys)?;
         Some(&row.value)
+    }
+
+    /// Equal rows.
+    pub(crate) fn copy(&self, alloc: Global) -> Result<Rows, Memory>
+        ensures { IfOk result (λ r. r ≡ self.now) }
+    {
+        let mut rows = Vec::with_capacity(alloc, self.rows.len())?;
+        for row in self.rows.as_slice() {
+            rows.push(row.copy(alloc)?)?;
+        }
+        Ok(Rows { rows })
     }
 }

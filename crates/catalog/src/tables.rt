@@ -1,19 +1,18 @@
 ghost use Rattle.std.specs.Prelude.{◌≡◌, ◌&&◌};
 ghost use Rattle.serde_json.specs.View.{view, members_view};
 ghost use Rattle.pr_value.specs.Symbols.{is_name};
-ghost use Rattle.catalog.specs.Errors.{ReadsBy};
+ghost use Rattle.value_json.specs.Errors.{ReadsBy};
 ghost use Rattle.catalog.specs.Shape.{is_array, are_arrays};
 ghost use Rattle.catalog.specs.Tables.{GivesTable, GivesTables};
 
 use crate::by_name::{ByName, Named};
 use crate::from_json::{FromMember, members_of};
-use crate::names::name_of;
-use crate::part_error::PartError;
 use crate::rows::Rows;
-use pr_value::{Symbol, is_name};
+use pr_value::{Memory, Symbol, is_name};
 use serde_json::{Map, Value as Json};
 use std::alloc::Global;
 use std::marker::Model;
+use value_json::{PartError, name_of};
 
 /// A table of values.
 #[derive(Debug, Drop)]
@@ -35,6 +34,13 @@ impl Named for Table {
 
     fn name(&self) -> &Symbol {
         &self.name
+    }
+
+    fn copy(&self, alloc: Global) -> Result<Table, Memory> {
+        Ok(Table {
+            name: self.name.copy(alloc)?,
+            rows: self.rows.copy(alloc)?,
+        })
     }
 }
 

@@ -8,7 +8,7 @@ use Rattle.pr_value.specs.declared.kind.Kind.{Kind}
 use Rattle.pr_value.specs.declared.value.Value.{Value}
 use Rattle.pr_value.proofs.ValueLaws.{has_kind-default_of}
 use Rattle.descriptor_types.specs.Descriptors.{Layout, Mask, Desc, plain, fits, only, asked_of}
-use Rattle.descriptor_types.specs.declared.layout.Declared.{Declared}
+use Rattle.pr_value.specs.declared.property.Property.{Property}
 
 pub length-fits : (l : Layout) (d : Desc) → fits l d ≡ true → length d ≡ length l
 length-fits [] [] fit = refl
@@ -41,20 +41,20 @@ fits-asked_of (p ∷ ps) (b ∷ bs) (w ∷ ws) (v ∷ d) long fit_wanted fit =
     both_true (has_kind-cond p.kind b w v (first_so _ _ fit_wanted) (first_so _ _ fit)) (fits-asked_of ps bs ws d (omega (arith, long)) (second_so _ _ fit_wanted) (second_so _ _ fit))
 
 -- a value of the property's kind may stand at its place
-pub fits-set : (l : Layout) (d : Desc) (i : ℕ) (v : Value) (q : Declared) → fits l d ≡ true → slice_get l i ≡ Some q → has_kind q.kind v ≡ true → fits l (set d i v) ≡ true
+pub fits-set : (l : Layout) (d : Desc) (i : ℕ) (v : Value) (q : Property) → fits l d ≡ true → slice_get l i ≡ Some q → has_kind q.kind v ≡ true → fits l (set d i v) ≡ true
 fits-set [] d i v q fit at is = cc
 fits-set (p ∷ ps) [] i v q fit at is = absurd (false≢true fit)
 fits-set (p ∷ ps) (w ∷ d) zero v q fit at is =
     let same : q ≡ p = cc in
-    both_true (subst (λ (r : Declared). has_kind r.kind v ≡ true) same is) (second_so _ _ fit)
+    both_true (subst (λ (r : Property). has_kind r.kind v ≡ true) same is) (second_so _ _ fit)
 fits-set (p ∷ ps) (w ∷ d) (suc i) v q fit at is = both_true (first_so _ _ fit) (fits-set ps d i v q (second_so _ _ fit) at is)
 
 -- and of that kind is the value that does
-pub has_kind-at : (l : Layout) (d : Desc) (i : ℕ) (v : Value) (q : Declared) → fits l d ≡ true → slice_get l i ≡ Some q → slice_get d i ≡ Some v → has_kind q.kind v ≡ true
+pub has_kind-at : (l : Layout) (d : Desc) (i : ℕ) (v : Value) (q : Property) → fits l d ≡ true → slice_get l i ≡ Some q → slice_get d i ≡ Some v → has_kind q.kind v ≡ true
 has_kind-at [] d i v q fit at is = cc
 has_kind-at (p ∷ ps) [] i v q fit at is = absurd (false≢true fit)
 has_kind-at (p ∷ ps) (w ∷ d) zero v q fit at is =
     let same : p ≡ q = cc in
     let one : w ≡ v = cc in
-    subst (λ (r : Declared). has_kind r.kind v ≡ true) same (subst (λ u. has_kind p.kind u ≡ true) one (first_so _ _ fit))
+    subst (λ (r : Property). has_kind r.kind v ≡ true) same (subst (λ u. has_kind p.kind u ≡ true) one (first_so _ _ fit))
 has_kind-at (p ∷ ps) (w ∷ d) (suc i) v q fit at is = has_kind-at ps d i v q (second_so _ _ fit) at is

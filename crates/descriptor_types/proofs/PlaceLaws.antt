@@ -5,11 +5,12 @@ use Rattle.std.specs.List.{position_from, position}
 use Rattle.std.specs.Option.{option_map}
 use Rattle.std.specs.Str.{bytes_eq}
 use Rattle.std.proofs.lemmas.Iterator.Adapters.{position_from-zero}
+use Rattle.pr_value.proofs.Shelf.{cond_place-none}
 use Rattle.pr_value.specs.Symbols.{Symbol}
 use Rattle.pr_value.specs.Values.{has_kind}
 use Rattle.pr_value.specs.declared.value.Value.{Value}
 use Rattle.descriptor_types.specs.Descriptors.{Layout, Desc, place_of, value_of, with_value, fits}
-use Rattle.descriptor_types.specs.declared.layout.Declared.{Declared}
+use Rattle.pr_value.specs.declared.property.Property.{Property}
 use Rattle.descriptor_types.proofs.FitLaws.{length-fits, fits-set, has_kind-at}
 
 -- ---- as the code looks for it
@@ -37,13 +38,7 @@ either_place true o i is = inl (refl, cc)
 either_place false None i is = cc
 either_place false (Some k) i is = inr (refl, (k, refl, cc))
 
--- neither is
-no_place : (b : Bool) (o : Option ℕ) → cond b (Some 0) (option_map suc o) ≡ None → (b ≡ false) × (o ≡ None)
-no_place true o is = cc
-no_place false None is = (refl, refl)
-no_place false (Some k) is = cc
-
-pub place_of-at : (l : Layout) (name : Symbol) (i : ℕ) → place_of l name ≡ Some i → (p : Declared) × (slice_get l i ≡ Some p) × (p.name ≡ name)
+pub place_of-at : (l : Layout) (name : Symbol) (i : ℕ) → place_of l name ≡ Some i → (p : Property) × (slice_get l i ≡ Some p) × (p.name ≡ name)
 place_of-at [] name i is = cc
 place_of-at (p ∷ ps) name i is =
     elim (either_place (bytes_eq p.name name) (place_of ps name) i is) [
@@ -100,13 +95,13 @@ pub with_value-none : (l : Layout) (name : Symbol) (w : Value) (d : Desc) → pl
 with_value-none [] name w d is = refl
 with_value-none (p ∷ ps) name w [] is = refl
 with_value-none (p ∷ ps) name w (v ∷ d) is =
-    let none = no_place (bytes_eq p.name name) (place_of ps name) is in
+    let none = cond_place-none (bytes_eq p.name name) (place_of ps name) is in
     ap (λ b. cond b (w ∷ d) (v ∷ with_value ps name w d)) none.0 ∙ ap (λ e. v ∷ e) (with_value-none ps name w d none.1)
 
 -- ---- kinds
 
-pub has_kind-value_of : (l : Layout) (name : Symbol) (d : Desc) (i : ℕ) (q : Declared) → fits l d ≡ true → place_of l name ≡ Some i → slice_get l i ≡ Some q → has_kind q.kind (value_of l name d) ≡ true
+pub has_kind-value_of : (l : Layout) (name : Symbol) (d : Desc) (i : ℕ) (q : Property) → fits l d ≡ true → place_of l name ≡ Some i → slice_get l i ≡ Some q → has_kind q.kind (value_of l name d) ≡ true
 has_kind-value_of l name d i q fit is at = has_kind-at l d i (value_of l name d) q fit at (value_of-at l name d i (length-fits l d fit) is)
 
-pub fits-with_value : (l : Layout) (name : Symbol) (w : Value) (d : Desc) (i : ℕ) (q : Declared) → fits l d ≡ true → place_of l name ≡ Some i → slice_get l i ≡ Some q → has_kind q.kind w ≡ true → fits l (with_value l name w d) ≡ true
+pub fits-with_value : (l : Layout) (name : Symbol) (w : Value) (d : Desc) (i : ℕ) (q : Property) → fits l d ≡ true → place_of l name ≡ Some i → slice_get l i ≡ Some q → has_kind q.kind w ≡ true → fits l (with_value l name w d) ≡ true
 fits-with_value l name w d i q fit is at kind = ap (fits l) (with_value-at l name w d i is) ∙ fits-set l d i w q fit at kind

@@ -46,23 +46,28 @@ asked-more m wanted d made i b x v w so_far on asked at is =
 
 -- ---- all values
 
-length-only : (l : Layout) (m : Mask) (d : Desc) → length (only l m d) ≤ length d
-length-only [] m d = omega arith
-length-only (p ∷ ps) [] d = omega arith
-length-only (p ∷ ps) (b ∷ bs) [] = omega arith
-length-only (p ∷ ps) (b ∷ bs) (v ∷ d) = omega (arith, length-only ps bs d)
+-- both are as long as the shortest
+length-only : (l : Layout) (m : Mask) (d : Desc) → (length (only l m d) ≤ length l) × (length (only l m d) ≤ length m) × (length (only l m d) ≤ length d)
+length-only [] m d = (omega arith, omega arith, omega arith)
+length-only (p ∷ ps) [] d = (omega arith, omega arith, omega arith)
+length-only (p ∷ ps) (b ∷ bs) [] = (omega arith, omega arith, omega arith)
+length-only (p ∷ ps) (b ∷ bs) (v ∷ d) = let rest = length-only ps bs d in (omega (arith, rest.0), omega (arith, rest.1), omega (arith, rest.2))
 
-length-asked_of : (m : Mask) (wanted d : Desc) → length (asked_of m wanted d) ≤ length d
-length-asked_of [] wanted d = omega arith
-length-asked_of (b ∷ bs) [] d = omega arith
-length-asked_of (b ∷ bs) (w ∷ wanted) [] = omega arith
-length-asked_of (b ∷ bs) (w ∷ wanted) (v ∷ d) = omega (arith, length-asked_of bs wanted d)
+length-asked_of : (m : Mask) (wanted d : Desc) → (length (asked_of m wanted d) ≤ length m) × (length (asked_of m wanted d) ≤ length wanted) × (length (asked_of m wanted d) ≤ length d)
+length-asked_of [] wanted d = (omega arith, omega arith, omega arith)
+length-asked_of (b ∷ bs) [] d = (omega arith, omega arith, omega arith)
+length-asked_of (b ∷ bs) (w ∷ wanted) [] = (omega arith, omega arith, omega arith)
+length-asked_of (b ∷ bs) (w ∷ wanted) (v ∷ d) = let rest = length-asked_of bs wanted d in (omega (arith, rest.0), omega (arith, rest.1), omega (arith, rest.2))
 
-pub take-only : (l : Layout) (m : Mask) (d : Desc) (n : ℕ) → length d ≤ n → take n (only l m d) ≡ only l m d
-take-only l m d n all = take_all n (only l m d) (omega (arith, length-only l m d))
+-- a number of places up to which all three go, and past which some one does not
+abbrev pub IsLeast : ℕ → ℕ → ℕ → ℕ → Type 0
+IsLeast a b c n = (k : ℕ) → k ≤ a → k ≤ b → k ≤ c → k ≤ n
 
-pub take-asked_of : (m : Mask) (wanted d : Desc) (n : ℕ) → length d ≤ n → take n (asked_of m wanted d) ≡ asked_of m wanted d
-take-asked_of m wanted d n all = take_all n (asked_of m wanted d) (omega (arith, length-asked_of m wanted d))
+pub take-only : (l : Layout) (m : Mask) (d : Desc) (n i : ℕ) → IsLeast (length l) (length m) (length d) n → n ≤ i → take i (only l m d) ≡ only l m d
+take-only l m d n i least all = let short = length-only l m d in take_all i (only l m d) (omega (arith, least (length (only l m d)) short.0 short.1 short.2))
+
+pub take-asked_of : (m : Mask) (wanted d : Desc) (n i : ℕ) → IsLeast (length m) (length wanted) (length d) n → n ≤ i → take i (asked_of m wanted d) ≡ asked_of m wanted d
+take-asked_of m wanted d n i least all = let short = length-asked_of m wanted d in take_all i (asked_of m wanted d) (omega (arith, least (length (asked_of m wanted d)) short.0 short.1 short.2))
 
 pub ruleset made_laws = (only-more, asked-more, take-only, take-asked_of)
 
@@ -90,8 +95,4 @@ fits-unlike l d unlike =
       | false ↦ λ is. is
     ] refl
 
-pub same-more : (d e : Desc) (i : ℕ) (v w : Value) → take i d ≡ take i e → slice_get d i ≡ Some v → slice_get e i ≡ Some w → v ≡ w → take (i + 1) d ≡ take (i + 1) e
-same-more d e i v w so_far at at' same =
-    simp add-one (take-next d i v at ∙ (ap (λ xs. xs ++ v ∷ []) so_far ∙ (ap (λ x. take i e ++ x ∷ []) same ∙ sym (take-next e i w at'))))
-
-pub ruleset test_laws = (fits-more, fits-wrong, fits-unlike, same-more)
+pub ruleset test_laws = (fits-more, fits-wrong, fits-unlike)

@@ -1,3 +1,4 @@
 pub mod Descriptors
+pub mod EqualityLaws
 pub mod Labels
 pub mod Laws

@@ -1,12 +1,16 @@
-ghost use Rattle.std.specs.Prelude.{◌≡◌, ◌↔◌, ◌<◌, List, true, Some, length, option_map, slice_get, slice_set, if◌then◌else◌, IsTrue, IfOk};
+ghost use Rattle.std.specs.Cmp.{decided, partial_equiv_from_equiv};
+ghost use Rattle.std.specs.Hash.{same_Alike};
+ghost use Rattle.std.specs.Prelude.{◌≡◌, ◌↔◌, ℕ, ◌<◌, ◌≤◌, List, true, Some, length, option_map, slice_get, slice_set, if◌then◌else◌, IsTrue, IfOk};
 ghost use Rattle.pr_value.specs.Values.{default_of, has_kind, is_default};
-ghost use Rattle.descriptor_types.specs.Descriptors.{plain, fits, only, asked_of};
-ghost use Rattle.descriptor_types.specs.declared.layout.Declared.{Declared};
+ghost use Rattle.descriptor_types.specs.Descriptors.{plain, fits, only, asked_of, same_desc, hashed_desc};
+ghost use Rattle.descriptor_types.specs.EqualityLaws.{same_desc-Decides};
+ghost use Rattle.pr_value.specs.declared.property.Property.{Property};
 
 use crate::layout::Layout;
 use crate::mask::Mask;
 use pr_value::{Kind, Memory, Value};
 use std::alloc::Global;
+use std::hash::{Hash, Hasher};
 use std::marker::Model;
 
 /// A value for each declared property, by its place. Where it fits a layout, numbers and costs are
@@ -47,6 +51,15 @@ fn asked_value(alloc: Global, is_wanted: bool, wanted: &Value, own: &Value) -> R
     }
 }
 
+fn least(a: usize, b: usize, c: usize) -> usize
+    ensures first { result ≤ a }
+    ensures second { result ≤ b }
+    ensures third { result ≤ c }
+    ensures one { (n : ℕ) → n ≤ a → n ≤ b → n ≤ c → n ≤ result }
+{
+    a.min(b).min(c)
+}
+
 impl Desc {
     /// Each property at the default of its kind.
     pub fn plain(alloc: Global, layout: &Layout) -> Result<Desc, Memory>
@@ -77,7 +90,7 @@ impl Desc {
     pub fn set(&mut self, p: usize, v: Value)
         requires { p < length self.old }
         ensures value { self.new ≡ slice_set self.old p v }
-        ensures fits { (l : List Declared) (q : Declared) → fits l self.old ≡ true
+        ensures fits { (l : List Property) (q : Property) → fits l self.old ≡ true
             → slice_get l p ≡ Some q → has_kind q.kind v ≡ true → fits l self.new ≡ true }
     {
         self.values[p] = v;
@@ -86,12 +99,11 @@ impl Desc {
     /// The descriptor with each property outside the mask at the default of its kind.
     #[tactic(auto, using(crate::proofs::StepLaws::made_laws))]
     pub fn view(&self, alloc: Global, layout: &Layout, seen: &Mask) -> Result<Desc, Memory>
-        requires properties { length layout.now ≡ length self.now }
-        requires places { length seen.now ≡ length self.now }
         ensures { IfOk result (λ d. d ≡ only layout.now seen.now self.now) }
     {
-        let mut values = Vec::with_capacity(alloc, self.count())?;
-        for p in 0..self.count() {
+        let places = least(layout.count(), seen.count(), self.count());
+        let mut values = Vec::with_capacity(alloc, places)?;
+        for p in 0..places {
             let value = seen_value(alloc, seen.on(p), layout.kind(p), self.get(p))?;
             values.push(value)?;
         }
@@ -101,12 +113,11 @@ impl Desc {
     /// The descriptor with the values of `wanted` at the properties of the mask.
     #[tactic(auto, using(crate::proofs::StepLaws::made_laws))]
     pub fn ask(&self, alloc: Global, physical: &Mask, wanted: &Desc) -> Result<Desc, Memory>
-        requires places { length physical.now ≡ length self.now }
-        requires values { length wanted.now ≡ length self.now }
         ensures { IfOk result (λ d. d ≡ asked_of physical.now wanted.now self.now) }
     {
-        let mut values = Vec::with_capacity(alloc, self.count())?;
-        for p in 0..self.count() {
+        let places = least(physical.count(), wanted.count(), self.count());
+        let mut values = Vec::with_capacity(alloc, places)?;
+        for p in 0..places {
             let value = asked_value(alloc, physical.on(p), wanted.get(p), self.get(p))?;
             values.push(value)?;
         }
@@ -122,19 +133,11 @@ impl Desc {
     }
 
     /// Whether the descriptors are equal. It takes no memory.
-    #[tactic(auto, using(crate::proofs::StepLaws::test_laws))]
     pub fn same(&self, other: &Desc) -> bool
-        ensures { IsTrue result ↔ (self.now ≡ other.now) }
+        ensures value { result ≡ same_desc self.now other.now }
+        ensures equal { IsTrue result ↔ (self.now ≡ other.now) }
     {
-        if self.count() != other.count() {
-            return false;
-        }
-        for p in 0..self.count() {
-            if !self.get(p).same(other.get(p)) {
-                return false;
-            }
-        }
-        true
+        self.values.as_slice() == other.values.as_slice()
     }
 
     /// Whether there is a value of its kind for each property of the layout, and no further one.
@@ -162,5 +165,29 @@ impl Desc {
             values.push(value.copy(alloc)?)?;
         }
         Ok(Desc { values })
+    }
+}
+
+impl PartialEq for Desc {
+    ghost eq = { same_desc };
+
+    ghost laws = { partial_equiv_from_equiv (decided same_desc same_desc-Decides) };
+
+    fn eq(&self, other: &Desc) -> bool {
+        self.same(other)
+    }
+}
+
+impl Eq for Desc {
+    ghost laws = { decided same_desc same_desc-Decides };
+}
+
+impl Hash for Desc {
+    ghost hash_input = { hashed_desc };
+
+    ghost respects_eq = { (same_Alike hashed_desc same_desc-Decides).fed };
+
+    fn hash<H: Hasher>(&self, state: &mut H) {
+        self.values.hash(state);
     }
 }

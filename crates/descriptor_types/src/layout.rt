@@ -1,51 +1,52 @@
-ghost use Rattle.std.specs.Prelude.{◌≡◌, ◌<◌, [], ◌∷◌, ◌++◌, Some, length, option_map, position, slice_get, IfOk, OnOk, OnErr};
+ghost use Rattle.std.specs.Prelude.{◌≡◌, ◌↔◌, ◌<◌, [], ◌∷◌, ◌++◌, Some, length, option_map, position, slice_get, IsTrue, IfOk, OnOk, OnErr};
 ghost use Rattle.std.specs.Str.{bytes_eq};
-ghost use Rattle.descriptor_types.specs.Descriptors.{place_of};
+ghost use Rattle.descriptor_types.specs.Descriptors.{place_of, IsCostPlace};
 
-use pr_value::{Kind, Memory, Symbol};
+use pr_value::{Kind, Memory, Property, Symbol};
 use std::alloc::Global;
 use std::marker::Model;
-
-/// A property with its kind.
-#[derive(Debug, Drop)]
-pub struct Declared {
-    pub name: Symbol,
-    pub kind: Kind,
-}
-
-impl Declared {
-    /// An equal property.
-    pub fn copy(&self, alloc: Global) -> Result<Declared, Memory>
-        ensures { IfOk result (λ p. p ≡ self.now) }
-    {
-        Ok(Declared {
-            name: self.name.copy(alloc)?,
-            kind: self.kind,
-        })
-    }
-}
 
 /// The properties with their kinds, in the order of declaration.
 #[derive(Debug, Drop)]
 pub struct Layout {
-    properties: Vec<Declared>,
+    properties: Vec<Property>,
 }
 
 impl Model for Layout {
     ghost use Rattle.std.specs.Prelude.{List};
-    ghost use Rattle.descriptor_types.specs.declared.layout.Declared.{Declared};
+    ghost use Rattle.pr_value.specs.declared.property.Property.{Property};
 
-    ghost Value = { List Declared };
+    ghost Value = { List Property };
 
     ghost view = { λ l. l.properties.items };
 }
 
-fn first_named(properties: &[Declared], name: &Symbol) -> Option<usize>
+fn first_named(properties: &[Property], name: &Symbol) -> Option<usize>
     ensures { result ≡ position (λ p. bytes_eq p.name name.now) properties.now }
 {
     properties
         .iter()
         .position(|property| property.name == *name)
+}
+
+fn is_cost(kind: Kind) -> bool
+    ensures { IsTrue result ↔ (kind ≡ Kind.Cost) }
+{
+    match kind {
+        Kind::Cost => true,
+        Kind::Num | Kind::Truth | Kind::Symbol | Kind::Set | Kind::List => false,
+    }
+}
+
+fn first_cost(properties: &[Property]) -> Option<usize>
+    ensures { IsCostPlace properties.now result }
+{
+    for (place, property) in properties.iter().enumerate() {
+        if is_cost(property.kind) {
+            return Some(place);
+        }
+    }
+    None
 }
 
 impl Layout {
@@ -58,12 +59,23 @@ impl Layout {
         }
     }
 
+    /// The layout of these properties, in their order.
+    pub fn of(alloc: Global, properties: &[Property]) -> Result<Layout, Memory>
+        ensures { IfOk result (λ l. l ≡ properties.now) }
+    {
+        let mut copies = Vec::with_capacity(alloc, properties.len())?;
+        for property in properties {
+            copies.push(property.copy(alloc)?)?;
+        }
+        Ok(Layout { properties: copies })
+    }
+
     /// Declares a further property. The layout is unchanged after an error.
     pub fn push(&mut self, name: Symbol, kind: Kind) -> Result<(), Memory>
         ensures ok { OnOk result (self.new ≡ self.old ++ record { name = name; kind = kind } ∷ []) }
         ensures err { OnErr result (self.new ≡ self.old) }
     {
-        self.properties.push(Declared { name, kind })?;
+        self.properties.push(Property { name, kind })?;
         Ok(())
     }
 
@@ -96,7 +108,14 @@ impl Layout {
         first_named(self.as_slice(), name)
     }
 
-    pub fn as_slice(&self) -> &[Declared]
+    /// The place of the first property of kind cost, if there is one.
+    pub fn cost_place(&self) -> Option<usize>
+        ensures { IsCostPlace self.now result }
+    {
+        first_cost(self.as_slice())
+    }
+
+    pub fn as_slice(&self) -> &[Property]
         ensures { result.now ≡ self.now }
     {
         self.properties.as_slice()
@@ -106,10 +125,7 @@ impl Layout {
     pub fn copy(&self, alloc: Global) -> Result<Layout, Memory>
         ensures { IfOk result (λ l. l ≡ self.now) }
     {
-        let mut properties = Vec::with_capacity(alloc, self.count())?;
-        for property in self.as_slice() {
-            properties.push(property.copy(alloc)?)?;
-        }
-        Ok(Layout { properties })
+        let copy = Layout::of(alloc, self.as_slice())?;
+        Ok(copy)
     }
 }

@@ -5,15 +5,13 @@ mod desc;
 mod laws;
 mod layout;
 mod mask;
+mod slots;
 mod tree;
 
 pub use desc::Desc;
-pub use laws::descriptor_laws;
-pub use layout::{Declared, Layout};
+pub use laws::{descriptor_laws, place_laws};
+pub use layout::Layout;
 pub use mask::Mask;
-pub use tree::Tree;
-
-#[cfg(test)]
-mod fixtures;
-#[cfg(test)]
-mod tests;
+pub use pr_value::Property;
+pub use slots::Slots;
+pub use tree::{Tree, push_views};

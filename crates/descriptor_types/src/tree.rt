@@ -1,7 +1,11 @@
-ghost use Rattle.std.specs.Prelude.{◌≡◌, length, IfOk};
+ghost use Rattle.std.specs.Prelude.{◌≡◌, ◌++◌, map, IfOk, OnOk};
+ghost use Rattle.pr_value.specs.Trees.{inputs};
+ghost use Rattle.descriptor_types.specs.Labels.{desc_of, view, root_slots, ask, seen_tree};
 
 use crate::desc::Desc;
+use crate::layout::Layout;
 use crate::mask::Mask;
+use crate::slots::Slots;
 use pr_value::{Items, Memory, Symbol};
 use std::alloc::Global;
 
@@ -30,9 +34,23 @@ fn copy_trees(alloc: Global, trees: &[Tree]) -> Result<Items<Tree>, Memory>
     Ok(Items::from_vec(copies))
 }
 
-impl Tree {
-    ghost use Rattle.descriptor_types.specs.Labels.{desc_of, ask, seen_tree};
+/// Appends the views of trees, in their order.
+pub fn push_views(
+    alloc: Global,
+    layout: &Layout,
+    seen: &Mask,
+    trees: &[Tree],
+    out: &mut Items<Desc>,
+) -> Result<(), Memory>
+    ensures { OnOk result (out.new ≡ out.old ++ map (λ t. view layout.now seen.now (seen_tree t)) trees.now) }
+{
+    for tree in trees {
+        out.push(tree.desc().view(alloc, layout, seen)?)?;
+    }
+    Ok(())
+}
 
+impl Tree {
     /// An equal tree.
     #[cycle(copy_tree)]
     pub fn copy(&self, alloc: Global) -> Result<Tree, Memory>
@@ -61,10 +79,36 @@ impl Tree {
         }
     }
 
+    /// The inputs of the root, of which a file has none.
+    pub fn inputs(&self) -> &[Tree]
+        ensures { map seen_tree result.now ≡ inputs (seen_tree self.now) }
+    {
+        match self {
+            Tree::File { .. } => &[],
+            Tree::Node { inputs, .. } => inputs.as_slice(),
+        }
+    }
+
+    /// What a rule sees of the tree where a stream stands for it.
+    pub fn view(&self, alloc: Global, layout: &Layout, seen: &Mask) -> Result<Desc, Memory>
+        ensures { IfOk result (λ d. d ≡ view layout.now seen.now (seen_tree self.now)) }
+    {
+        let view = self.desc().view(alloc, layout, seen)?;
+        Ok(view)
+    }
+
+    /// What a rule of one operator sees of the tree. No tree is copied.
+    pub fn slots(&self, alloc: Global, layout: &Layout, seen: &Mask) -> Result<Slots, Memory>
+        ensures { IfOk result (λ s. s ≡ root_slots layout.now seen.now (seen_tree self.now)) }
+    {
+        let mut slots = Slots::new(alloc);
+        slots.nodes.push(self.desc().copy(alloc)?)?;
+        push_views(alloc, layout, seen, self.inputs(), &mut slots.streams)?;
+        Ok(slots)
+    }
+
     /// The tree with the values of `wanted` at the properties of the mask in its root.
     pub fn ask(&self, alloc: Global, physical: &Mask, wanted: &Desc) -> Result<Tree, Memory>
-        requires places { length physical.now ≡ length (desc_of (seen_tree self.now)) }
-        requires values { length wanted.now ≡ length (desc_of (seen_tree self.now)) }
         ensures { IfOk result (λ t. seen_tree t ≡ ask physical.now wanted.now (seen_tree self.now)) }
     {
         match self {

@@ -5,8 +5,9 @@ use Rattle.std.specs.String.{string_cmp}
 use Rattle.std.proofs.lemmas.Result.{err_from_is_err_and}
 use Rattle.serde_json.specs.View.{view}
 use Rattle.serde_json.proofs.Views.{Entry}
-use Rattle.catalog.specs.Errors.{ReadsBy}
-use Rattle.catalog.proofs.PartLaws.{AllZip-push, fails_here, names_rise}
+use Rattle.value_json.specs.Errors.{ReadsBy}
+use Rattle.value_json.proofs.EachLaws.{AllZip-push, fails_here}
+use Rattle.catalog.proofs.PartLaws.{names_rise}
 use Rattle.catalog.proofs.from_json.members_of.Goals as goal
 
 pub returns-in_err-item : goal.returns-in_err-item

@@ -1,5 +1,0 @@
-use Rattle.catalog.proofs.ValueLaws.{symbols_each}
-use Rattle.catalog.proofs.value_reading.symbols_of.Goals as goal
-
-pub returns : goal.returns
-returns c = symbols_each c.args.items.now c.items_of.result c.items_of.ensures
