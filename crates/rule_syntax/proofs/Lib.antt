@@ -13,3 +13,10 @@ pub mod RulesLaws
 pub mod QueryLaws
 pub mod PrintableLaws
 mod TypingRows
+mod CostFormLaws
+pub mod DescLaws
+pub mod ReadLaws
+pub mod RoleLaws
+pub mod BuiltinLaws
+pub mod KindLaws
+pub mod SpelledLaws

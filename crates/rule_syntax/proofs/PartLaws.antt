@@ -7,7 +7,7 @@ use Rattle.pr_value.specs.Symbols.{Symbol}
 use Rattle.pr_value.specs.declared.kind.Kind.{Kind}
 use Rattle.pr_value.specs.declared.token.Token.TheVariants as token
 use Rattle.pr_value.specs.declared.token.Mark.TheVariants as mark
-use Rattle.rule_syntax.specs.declared.parts.Property.{Property}
+use Rattle.pr_value.specs.declared.property.Property.{Property}
 use Rattle.rule_syntax.specs.declared.parts.Algorithm.{Algorithm}
 use Rattle.rule_syntax.specs.declared.parts.Param.{Param}
 use Rattle.rule_syntax.specs.Syntax.{Expr, Stmt, set, copy, Body, Operator, Helper}

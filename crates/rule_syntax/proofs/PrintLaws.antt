@@ -16,7 +16,7 @@ use Rattle.rule_syntax.specs.Syntax.{LeftLabel, RightLabel}
 use Rattle.rule_syntax.specs.Seen.{seen_expr, exprs_of, seen_stmt, seen_operator, seen_helper, seen_trule, seen_irule, seen_left, seen_left_in, left_level, left_input_level, seen_right, seen_right_in, right_level, right_input_level}
 use Rattle.rule_syntax.specs.SeenRules.{seen_rules}
 use Rattle.rule_syntax.specs.declared.expr.Stmt as stmt
-use Rattle.rule_syntax.specs.declared.parts.Property.{Property}
+use Rattle.pr_value.specs.declared.property.Property.{Property}
 use Rattle.rule_syntax.specs.declared.parts.Operator as operator
 use Rattle.rule_syntax.specs.declared.parts.Algorithm.{Algorithm}
 use Rattle.rule_syntax.specs.declared.parts.Helper as helper

@@ -16,7 +16,7 @@ use Rattle.rule_syntax.specs.declared.expr.FoldKind.{FoldKind}
 use Rattle.rule_syntax.specs.declared.expr.FoldKind.TheVariants as folding
 use Rattle.rule_syntax.specs.declared.parts.Algorithm.{Algorithm}
 use Rattle.rule_syntax.specs.declared.parts.Param.{Param}
-use Rattle.rule_syntax.specs.declared.parts.Property.{Property}
+use Rattle.pr_value.specs.declared.property.Property.{Property}
 use Rattle.rule_syntax.specs.declared.sides.AlgName.{AlgName}
 use Rattle.rule_syntax.specs.declared.sides.AlgName.TheVariants as alg
 use Rattle.rule_syntax.specs.declared.sides.ImplIn.{ImplIn}

@@ -9,7 +9,7 @@ use Rattle.pr_value.specs.Symbols.{Symbol}
 use Rattle.pr_value.specs.Trees.{Tree}
 use Rattle.pr_value.specs.declared.token.Token.TheVariants as token
 use Rattle.pr_value.specs.declared.token.Mark.TheVariants as mark
-use Rattle.rule_syntax.specs.declared.parts.Property.{Property}
+use Rattle.pr_value.specs.declared.property.Property.{Property}
 use Rattle.rule_syntax.specs.declared.parts.Algorithm.{Algorithm}
 use Rattle.rule_syntax.specs.declared.sides.ImplSide.{ImplSide}
 use Rattle.rule_syntax.specs.Syntax.{LeftLabel, RightLabel, Body, Operator, Helper, TRule, IRule, Rules}

@@ -5,7 +5,7 @@ use Rattle.pr_value.specs.declared.kind.Kind.{Kind}
 use Rattle.pr_value.specs.declared.kind.Kind.TheVariants as kind
 use Rattle.rule_syntax.specs.declared.expr.BinOp.TheVariants as op
 use Rattle.rule_syntax.specs.declared.expr.FoldKind.TheVariants as folding
-use Rattle.rule_syntax.specs.declared.parts.Property.{Property}
+use Rattle.pr_value.specs.declared.property.Property.{Property}
 use Rattle.rule_syntax.specs.Syntax.{Expr, number, truth, symbol, set_of, list_of, var, call, binary, fold, Exprs, nil, cons, Stmt, Helper}
 use Rattle.rule_syntax.specs.Syntax as syntax
 use Rattle.rule_syntax.specs.Typing.{Context, type_of, is_typed_stmt, are_typed, signatures_of}

@@ -11,8 +11,10 @@ use Rattle.rule_syntax.specs.declared.expr.BinOp.{BinOp}
 use Rattle.rule_syntax.specs.declared.expr.BinOp.TheVariants as op
 use Rattle.rule_syntax.specs.declared.expr.FoldKind.{FoldKind}
 use Rattle.rule_syntax.specs.declared.expr.FoldKind.TheVariants as folding
+use Rattle.rule_syntax.specs.declared.table.Builtin.{Builtin}
+use Rattle.rule_syntax.specs.declared.table.Builtin.TheVariants as builtin
 use Rattle.rule_syntax.specs.declared.parts.Param.{Param}
-use Rattle.rule_syntax.specs.declared.parts.Property.{Property}
+use Rattle.pr_value.specs.declared.property.Property.{Property}
 use Rattle.rule_syntax.specs.Syntax.{Expr, number, truth, symbol, set_of, list_of, var, read, call, binary, fold, Exprs, Stmt, set, copy, Helper}
 use Rattle.rule_syntax.specs.Syntax as syntax
 
@@ -45,39 +47,60 @@ pub record Signature : Type 0 where
 abbrev pub signature : Symbol → List Kind → Kind → Signature
 signature f params result = record { name = f; params = params; result = result }
 
+-- a function, and a name with what it takes and gives under it
+pub record Row : Type 0 where
+  pub function : Builtin
+  pub signature : Signature
+
+abbrev pub row : Symbol → Builtin → List Kind → Kind → Row
+row name f params result = record { function = f; signature = signature name params result }
+
 -- a choice between two values of a type
-abbrev pub choice : Kind → Signature
-choice t = signature (codes "if") (kind.Truth ∷ t ∷ t ∷ []) t
+abbrev pub choice : Kind → Row
+choice t = row (codes "if") builtin.If (kind.Truth ∷ t ∷ t ∷ []) t
 
 -- a look-up in a table, by one to four keys
-abbrev pub lookups : Symbol → Kind → List Signature
-lookups f t =
-    signature f (kind.Symbol ∷ kind.Symbol ∷ []) t ∷
-    signature f (kind.Symbol ∷ kind.Symbol ∷ kind.Symbol ∷ []) t ∷
-    signature f (kind.Symbol ∷ kind.Symbol ∷ kind.Symbol ∷ kind.Symbol ∷ []) t ∷
-    signature f (kind.Symbol ∷ kind.Symbol ∷ kind.Symbol ∷ kind.Symbol ∷ kind.Symbol ∷ []) t ∷ []
+abbrev pub lookups : Symbol → Builtin → Kind → List Row
+lookups name f t =
+    row name f (kind.Symbol ∷ kind.Symbol ∷ []) t ∷
+    row name f (kind.Symbol ∷ kind.Symbol ∷ kind.Symbol ∷ []) t ∷
+    row name f (kind.Symbol ∷ kind.Symbol ∷ kind.Symbol ∷ kind.Symbol ∷ []) t ∷
+    row name f (kind.Symbol ∷ kind.Symbol ∷ kind.Symbol ∷ kind.Symbol ∷ kind.Symbol ∷ []) t ∷ []
 
--- the built-in functions: one of several signatures by what it is given
-abbrev pub builtins : List Signature
-builtins =
+-- the built-in functions: one of several rows by what a function is given
+abbrev pub table : List Row
+table =
     choice kind.Num ∷ choice kind.Truth ∷ choice kind.Symbol ∷ choice kind.Set ∷ choice kind.List ∷
-    signature (codes "not") (kind.Truth ∷ []) kind.Truth ∷
-    signature (codes "min") (kind.Num ∷ kind.Num ∷ []) kind.Num ∷
-    signature (codes "max") (kind.Num ∷ kind.Num ∷ []) kind.Num ∷
-    signature (codes "log2") (kind.Num ∷ []) kind.Num ∷
-    signature (codes "union") (kind.Set ∷ kind.Set ∷ []) kind.Set ∷
-    signature (codes "minus") (kind.Set ∷ kind.Set ∷ []) kind.Set ∷
-    signature (codes "meet") (kind.Set ∷ kind.Set ∷ []) kind.Set ∷
-    signature (codes "has") (kind.Set ∷ kind.Symbol ∷ []) kind.Truth ∷
-    signature (codes "subset") (kind.Set ∷ kind.Set ∷ []) kind.Truth ∷
-    signature (codes "size") (kind.Set ∷ []) kind.Num ∷
-    signature (codes "length") (kind.List ∷ []) kind.Num ∷
-    signature (codes "at") (kind.List ∷ kind.Num ∷ []) kind.Symbol ∷
-    signature (codes "prefix") (kind.List ∷ kind.List ∷ []) kind.Truth ∷
-    signature (codes "concat") (kind.List ∷ kind.List ∷ []) kind.List ∷
-    signature (codes "elems") (kind.List ∷ []) kind.Set ∷
-    lookups (codes "num_at") kind.Num ++ lookups (codes "truth_at") kind.Truth ++ lookups (codes "sym_at") kind.Symbol ++
-    lookups (codes "set_at") kind.Set ++ lookups (codes "list_at") kind.List
+    row (codes "not") builtin.Not (kind.Truth ∷ []) kind.Truth ∷
+    row (codes "min") builtin.Min (kind.Num ∷ kind.Num ∷ []) kind.Num ∷
+    row (codes "max") builtin.Max (kind.Num ∷ kind.Num ∷ []) kind.Num ∷
+    row (codes "log2") builtin.Log2 (kind.Num ∷ []) kind.Num ∷
+    row (codes "union") builtin.Union (kind.Set ∷ kind.Set ∷ []) kind.Set ∷
+    row (codes "minus") builtin.Minus (kind.Set ∷ kind.Set ∷ []) kind.Set ∷
+    row (codes "meet") builtin.Meet (kind.Set ∷ kind.Set ∷ []) kind.Set ∷
+    row (codes "has") builtin.Has (kind.Set ∷ kind.Symbol ∷ []) kind.Truth ∷
+    row (codes "subset") builtin.Subset (kind.Set ∷ kind.Set ∷ []) kind.Truth ∷
+    row (codes "size") builtin.Size (kind.Set ∷ []) kind.Num ∷
+    row (codes "length") builtin.Length (kind.List ∷ []) kind.Num ∷
+    row (codes "at") builtin.At (kind.List ∷ kind.Num ∷ []) kind.Symbol ∷
+    row (codes "prefix") builtin.Prefix (kind.List ∷ kind.List ∷ []) kind.Truth ∷
+    row (codes "concat") builtin.Concat (kind.List ∷ kind.List ∷ []) kind.List ∷
+    row (codes "elems") builtin.Elems (kind.List ∷ []) kind.Set ∷
+    lookups (codes "num_at") builtin.NumAt kind.Num ++ lookups (codes "truth_at") builtin.TruthAt kind.Truth ++
+    lookups (codes "sym_at") builtin.SymbolAt kind.Symbol ++ lookups (codes "set_at") builtin.SetAt kind.Set ++
+    lookups (codes "list_at") builtin.ListAt kind.List
+
+-- the function of the first row of that name
+abbrev pub function_in : List Row → Symbol → Option Builtin
+function_in [] f = None
+function_in (r ∷ rs) f = if bytes_eq r.signature.name f then Some r.function else function_in rs f
+
+-- the built-in function of that name
+abbrev pub builtin_of : Symbol → Option Builtin
+builtin_of = function_in table
+
+abbrev pub builtins : List Signature
+builtins = map (λ r. r.signature) table
 
 -- the name is that of a built-in function
 abbrev pub is_builtin : Symbol → Bool

@@ -2,13 +2,6 @@ use crate::expr::{Expr, Stmt};
 use crate::sides::{ImplSide, Left, Right};
 use pr_value::{Items, Kind, Symbol};
 
-/// `property name : kind;`
-#[derive(Debug, Drop)]
-pub struct Property {
-    pub name: Symbol,
-    pub kind: Kind,
-}
-
 /// `operator name(views) : own { init }`
 #[derive(Debug, Drop)]
 pub struct Operator {

@@ -9,6 +9,3 @@ mod spaced;
 mod tokens;
 
 pub use rules::print_rules;
-
-#[cfg(test)]
-mod tests;

@@ -12,14 +12,3 @@ mod tokens;
 
 pub use query::read_query;
 pub use rules::read_rules;
-
-#[cfg(test)]
-pub(crate) mod test_tokens;
-#[cfg(test)]
-mod tests;
-#[cfg(test)]
-mod tests_query;
-#[cfg(test)]
-mod tests_rules;
-#[cfg(test)]
-mod tests_sides;

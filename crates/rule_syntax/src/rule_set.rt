@@ -2,8 +2,8 @@ ghost use Rattle.std.specs.Prelude.{◌≡◌, true};
 ghost use Rattle.rule_syntax.specs.Seen.{seen_parts};
 ghost use Rattle.rule_syntax.specs.Spelled.{spells};
 
-use crate::parts::{Algorithm, Helper, IRule, Operator, Property, TRule};
-use pr_value::Items;
+use crate::parts::{Algorithm, Helper, IRule, Operator, TRule};
+use pr_value::{Items, Property};
 
 /// A rule set that the grammar spells, with each section in the order of its text.
 #[derive(Debug, Drop)]

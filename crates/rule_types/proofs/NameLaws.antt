@@ -6,7 +6,7 @@ use Rattle.std.specs.Str.{bytes_eq}
 use Rattle.pr_value.specs.Symbols.{Symbol}
 use Rattle.rule_syntax.specs.Typing.{var_type, property_kind, params_context, type_of_kind}
 use Rattle.rule_syntax.specs.declared.parts.Param.{Param}
-use Rattle.rule_syntax.specs.declared.parts.Property.{Property}
+use Rattle.pr_value.specs.declared.property.Property.{Property}
 
 pub property_kind-find : (ps : List Property) (name : Symbol) → property_kind ps name ≡ option_map (λ p. p.kind) (find (λ p. bytes_eq p.name name) ps)
 property_kind-find [] name = refl

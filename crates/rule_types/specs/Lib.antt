@@ -1,3 +1,2 @@
 pub mod Contexts
 pub mod Scopes
-pub mod Tables

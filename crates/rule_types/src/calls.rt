@@ -1,51 +1,14 @@
-ghost use Rattle.std.specs.Prelude.{◌≡◌, ◌&&◌, [], ◌∷◌, map, option_map, option_and_then, if◌then◌else◌};
-ghost use Rattle.std.specs.List.{find, list_all, list_any, zip};
-ghost use Rattle.std.specs.Option.{option_copied};
+ghost use Rattle.std.specs.Prelude.{◌≡◌, [], ◌∷◌, map, option_map, option_and_then, if◌then◌else◌};
+ghost use Rattle.std.specs.List.{list_all, zip};
 ghost use Rattle.std.specs.Str.{bytes_eq};
 ghost use Rattle.rule_syntax.specs.Seen.{seen_helper};
-ghost use Rattle.rule_syntax.specs.Typing.{is_builtin, result_in, builtins, helper_result, helper_signature, call_type, signatures_of, type_of_kind, same_type, same_types};
-ghost use Rattle.rule_types.specs.Tables.{seen_signature};
+ghost use Rattle.rule_syntax.specs.Typing.{helper_result, helper_signature, call_type, signatures_of, type_of_kind, same_type, same_types};
 
-use crate::kinds::{same_type, same_types, type_of_kind};
-use crate::table::{BUILTINS, Signature};
 use pr_value::{Kind, Symbol};
-use rule_syntax::{Helper, Param};
-
-fn is_in(table: &[Signature], name: &[u8]) -> bool
-    ensures { result ≡ list_any (λ s. bytes_eq s.0.now name.now) table.now }
-{
-    table.iter().any(|signature| signature.0 == name)
-}
-
-#[tactic(auto, using(crate::proofs::CallLaws::call_laws))]
-fn is_builtin(name: &[u8]) -> bool
-    ensures { result ≡ is_builtin name.now }
-{
-    is_in(&BUILTINS, name)
-}
-
-fn first_in<'a>(table: &'a [Signature], name: &[u8], types: &[Kind]) -> Option<&'a Signature>
-    ensures { option_copied result ≡ find (λ s. bytes_eq s.0.now name.now && same_types s.1.now types.now) table.now }
-{
-    table.iter().find(|signature| signature.0 == name && same_types(signature.1, types))
-}
-
-#[tactic(auto, using(crate::proofs::CallLaws::call_laws))]
-fn result_in(table: &[Signature], name: &[u8], types: &[Kind]) -> Option<Kind>
-    ensures { result ≡ result_in (map seen_signature table.now) name.now types.now }
-{
-    let signature = first_in(table, name, types)?;
-    Some(signature.2)
-}
-
-fn builtin_result(name: &[u8], types: &[Kind]) -> Option<Kind>
-    ensures { result ≡ result_in builtins name.now types.now }
-{
-    result_in(&BUILTINS, name, types)
-}
+use rule_syntax::{Helper, Param, builtin_result, is_builtin, same_type, type_of_kind};
 
 // Whether the parameters are as many as the types, and each is of its own.
-#[tactic(auto, using(crate::proofs::KindLaws::kind_laws))]
+#[tactic(auto, using(rule_syntax::proofs::KindLaws::kind_laws))]
 fn takes(params: &[Param], types: &[Kind]) -> bool
     ensures { result ≡ same_types (map (λ p. type_of_kind p.kind) params.now) types.now }
 {

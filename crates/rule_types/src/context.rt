@@ -1,5 +1,5 @@
-use pr_value::Symbol;
-use rule_syntax::{Helper, Param, Property};
+use pr_value::{Property, Symbol};
+use rule_syntax::{Helper, Param};
 
 /// The names that an expression may use: descriptors, and parameters with their kinds.
 #[derive(Clone, Copy)]

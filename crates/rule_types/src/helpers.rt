@@ -3,10 +3,9 @@ ghost use Rattle.rule_syntax.specs.Seen.{seen_expr, seen_helper};
 ghost use Rattle.rule_syntax.specs.Typing.{type_of, type_of_kind, is_type, params_context, are_typed, signatures_of};
 
 use crate::context::Context;
-use crate::kinds::{is_type, type_of_kind};
 use crate::typing::type_of;
-use pr_value::Memory;
-use rule_syntax::{Helper, Property};
+use pr_value::{Memory, Property};
+use rule_syntax::{Helper, is_type, type_of_kind};
 use std::alloc::Global;
 
 fn is_typed_helper(

@@ -7,16 +7,8 @@ ghost use Rattle.rule_syntax.specs.Typing.{var_type, property_kind, type_of_kind
 ghost use Rattle.rule_types.specs.Scopes.{vars_of};
 
 use crate::context::{Names, Scope};
-use crate::kinds::type_of_kind;
-use pr_value::{Kind, Symbol};
-use rule_syntax::{Param, Property};
-
-/// Whether the descriptor is one of these.
-pub fn contains(descs: &[Symbol], desc: &Symbol) -> bool
-    ensures { result ≡ contains descs.now desc.now }
-{
-    descs.iter().any(|known| *desc == *known)
-}
+use pr_value::{Kind, Property, Symbol, contains};
+use rule_syntax::{Param, type_of_kind};
 
 fn param_named<'a>(params: &'a [Param], x: &Symbol) -> Option<&'a Param>
     ensures { option_copied result ≡ find (λ p. bytes_eq p.name x.now) params.now }
@@ -70,7 +62,8 @@ pub fn read_type(scope: &Scope, desc: &Symbol, property: &Symbol) -> Option<Kind
         else None) }
 {
     if contains(scope.descs, desc) {
-        property_kind(scope.properties, property).map(type_of_kind)
+        let kind = property_kind(scope.properties, property)?;
+        Some(type_of_kind(kind))
     } else {
         None
     }

@@ -5,11 +5,10 @@ ghost use Rattle.rule_syntax.specs.Typing.{fits_property, is_typed_stmt, signatu
 ghost use Rattle.rule_types.specs.Contexts.{seen_context};
 
 use crate::context::Context;
-use crate::kinds::{is_type, type_of_kind};
-use crate::names::{contains, property_kind};
+use crate::names::property_kind;
 use crate::typing::type_of;
-use pr_value::{Kind, Memory};
-use rule_syntax::{Helper, Property, Stmt};
+use pr_value::{Kind, Memory, Property, contains};
+use rule_syntax::{Helper, Stmt, is_type, type_of_kind};
 use std::alloc::Global;
 
 fn fits_property(kind: Option<Kind>, value: Option<Kind>) -> bool

@@ -8,8 +8,8 @@ use crate::calls::call_type;
 use crate::context::{Context, Names, Scope};
 use crate::names::{read_type, var_type};
 use crate::operators::{binary_type, fold_type, number_type, of_symbols};
-use pr_value::{Kind, Memory};
-use rule_syntax::{Expr, Helper, Property};
+use pr_value::{Kind, Memory, Property};
+use rule_syntax::{Expr, Helper};
 use std::alloc::Global;
 
 #[cycle(typing)]

@@ -5,12 +5,12 @@ ghost use Rattle.rule_syntax.specs.Tokens as text;
 ghost use Rattle.rule_syntax.specs.Tokens.{block, body_tokens, commas, stmt_tokens, property_tokens, operator_tokens, algorithm_tokens, param_tokens, helper_tokens};
 
 use crate::expr::{Expr, Stmt};
-use crate::parts::{Algorithm, Body, Helper, Operator, Param, Property};
+use crate::parts::{Algorithm, Body, Helper, Operator, Param};
 use crate::printing::expr::{push_expr, push_read};
 use crate::printing::tokens::{
     begin, close_side, push_comma, push_kind, push_mark, push_name, push_number, push_word,
 };
-use pr_value::{Items, Kind, Mark, Memory, Symbol, Token};
+use pr_value::{Items, Kind, Mark, Memory, Property, Symbol, Token};
 use std::alloc::Global;
 
 /// `desc.property = value;`

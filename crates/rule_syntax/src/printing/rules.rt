@@ -1,5 +1,5 @@
 // The printer of a rule set.
-ghost use Rattle.std.specs.Prelude.{◌≡◌, ◌++◌, OnOk};
+ghost use Rattle.std.specs.Prelude.{◌≡◌, ◌++◌, OnOk, OnErr};
 ghost use Rattle.rule_syntax.specs.SeenRules.{seen_rules};
 ghost use Rattle.pr_value.specs.TokenTexts.{spaced};
 ghost use Rattle.rule_syntax.specs.Tokens.{tokens_of};
@@ -24,13 +24,14 @@ fn push_rules(alloc: Global, rules: &Rules, tokens: &mut Items<Token>) -> Result
     Ok(())
 }
 
-/// Appends the rule set's text, with one blank between tokens. What is appended before an error is
-/// a part of it.
+/// Appends the rule set's text, with one blank between tokens. The text is unchanged after an error.
 pub fn print_rules(alloc: Global, rules: &Rules, out: &mut Text) -> Result<(), Memory>
-    ensures { OnOk result (out.new ≡ out.old ++ spaced (tokens_of (seen_rules rules.now))) }
+    ensures ok { OnOk result (out.new ≡ out.old ++ spaced (tokens_of (seen_rules rules.now))) }
+    ensures err { OnErr result (out.new ≡ out.old) }
 {
     let mut tokens = Items::new(alloc);
     push_rules(alloc, rules, &mut tokens)?;
-    push_spaced(alloc, tokens.as_slice(), out)?;
-    Ok(())
+    let mut text = Text::new(alloc);
+    push_spaced(alloc, tokens.as_slice(), &mut text)?;
+    out.push_bytes(text.as_slice())
 }

@@ -3,13 +3,13 @@ ghost use Rattle.std.specs.Prelude.{◌≡◌, ◌++◌, flat_map, OnOk};
 ghost use Rattle.rule_syntax.specs.Seen.{seen_operator, seen_helper, seen_trule, seen_irule};
 ghost use Rattle.rule_syntax.specs.Tokens.{property_tokens, operator_tokens, algorithm_tokens, helper_tokens, trule_tokens, irule_tokens};
 
-use crate::parts::{Algorithm, Helper, IRule, Operator, Property, TRule};
+use crate::parts::{Algorithm, Helper, IRule, Operator, TRule};
 use crate::printing::parts::{
     push_algorithm, push_body, push_helper, push_operator, push_property,
 };
 use crate::printing::sides::{push_impl, push_left, push_right};
 use crate::printing::tokens::{begin, push_mark};
-use pr_value::{Items, Mark, Memory, Token};
+use pr_value::{Items, Mark, Memory, Property, Token};
 use std::alloc::Global;
 
 fn push_trule(alloc: Global, trule: &TRule, tokens: &mut Items<Token>) -> Result<(), Memory>

@@ -8,11 +8,11 @@ ghost use Rattle.rule_syntax.specs.ReadingParts as reading;
 ghost use Rattle.rule_syntax.specs.Seen.{seen_stmt, seen_body, seen_operator, seen_helper};
 
 use crate::expr::Stmt;
-use crate::parts::{Algorithm, Body, Helper, Operator, Param, Property};
+use crate::parts::{Algorithm, Body, Helper, Operator, Param};
 use crate::reading::expr::{LEVELS, expr};
 use crate::reading::stop::Stop;
 use crate::reading::tokens::{after, kind, mark, name, next_is_mark, number, word};
-use pr_value::{Items, Mark, Symbol, Token};
+use pr_value::{Items, Mark, Property, Symbol, Token};
 use std::alloc::Global;
 
 fn stmt(alloc: Global, ts: &[Token]) -> Result<(Stmt, &[Token]), Stop>

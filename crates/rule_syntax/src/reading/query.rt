@@ -1,10 +1,11 @@
 // The reader of a query.
-ghost use Rattle.std.specs.Prelude.{◌≡◌, ◌≢◌, IfOk, IfErr, length, map};
+ghost use Rattle.std.specs.Prelude.{◌≡◌, ◌≢◌, IfOk, IfErr, true, length, map};
 ghost use Rattle.pr_value.specs.Placed.{tokens_in};
 ghost use Rattle.rule_syntax.specs.Levels.{IsQuery};
 ghost use Rattle.rule_syntax.specs.Reading.{Gives, filled_at, listed_at};
 ghost use Rattle.rule_syntax.specs.ReadingQuery as reading;
 ghost use Rattle.rule_syntax.specs.Seen.{seen_query};
+ghost use Rattle.rule_syntax.specs.Spelled.{spells_query};
 ghost use Rattle.rule_syntax.specs.Syntax as syntax;
 
 use crate::error::SyntaxError;
@@ -21,6 +22,7 @@ const LEVELS: u64 = 256;
 /// The query with these tokens.
 pub fn read_query(alloc: Global, tokens: &Tokens) -> Result<QueryText, SyntaxError>
     ensures found { IfOk result (λ q. IsQuery (seen_query q) (tokens_in tokens.now)) }
+    ensures spelled { IfOk result (λ q. spells_query (seen_query q) ≡ true) }
     ensures only { IfOk result (λ q. (s : syntax.Query) → IsQuery s (tokens_in tokens.now) → s ≡ seen_query q) }
     ensures refused { IfErr result (λ e. e ≢ SyntaxError.Memory → (s : syntax.Query) → IsQuery s (tokens_in tokens.now) → ⊥) }
 {

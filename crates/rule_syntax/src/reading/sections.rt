@@ -6,11 +6,11 @@ ghost use Rattle.rule_syntax.specs.ReadingParts as reading;
 ghost use Rattle.rule_syntax.specs.ReadingParts.{section_at};
 ghost use Rattle.rule_syntax.specs.Seen.{seen_operator, seen_helper};
 
-use crate::parts::{Algorithm, Helper, Operator, Property};
+use crate::parts::{Algorithm, Helper, Operator};
 use crate::reading::parts::{algorithm, helper, operator, property};
 use crate::reading::stop::Stop;
 use crate::reading::tokens::next_is;
-use pr_value::{Items, Token};
+use pr_value::{Items, Property, Token};
 use std::alloc::Global;
 
 pub fn properties(alloc: Global, ts: &[Token]) -> Result<(Items<Property>, &[Token]), Stop>
