@@ -8,8 +8,8 @@ use Rattle.pr_value.specs.declared.value.Value.TheVariants.{Num, Truth, Sym, Set
 use Rattle.catalog.specs.Contents.{Catalog}
 use Rattle.rule_syntax.specs.declared.expr.BinOp.TheVariants as op
 use Rattle.rule_syntax.specs.declared.expr.FoldKind.TheVariants as folding
-use Rattle.action_eval.specs.Builtins.{binary_value, builtins, function_or, fold_value}
-use Rattle.action_eval.specs.Meaning.{no_calls}
+use Rattle.action_eval.specs.Builtins.{binary_value, fold_value}
+use Rattle.action_eval.specs.Meaning.{no_calls, with_builtins}
 
 abbrev a : Symbol
 a = codes "a"
@@ -31,7 +31,7 @@ catalog = record {
 }
 
 abbrev call : Symbol → List Value → Value
-call = function_or no_calls (builtins catalog)
+call = with_builtins catalog no_calls
 
 if-true : call (codes "if") (Truth true ∷ Num 1 ∷ Num 2 ∷ []) ≡ Num 1
 if-true = refl

@@ -1,5 +1,5 @@
 -- Descriptors by their names and places.
-use Rattle.std.proofs.Common.{◌≡◌, ℕ, zero, suc, ◌<◌, true, false, cond, List, [], ◌∷◌, ◌++◌, length, take, get_or, map, Option, Some, None, refl, ap, sym, ◌∙◌, subst, arith}
+use Rattle.std.proofs.Common.{◌≡◌, ℕ, zero, suc, ◌<◌, true, false, cond, List, [], ◌∷◌, ◌++◌, length, take, get_or, map, Some, None, refl, ap, sym, ◌∙◌, subst, arith}
 use Rattle.std.specs.Prelude.{option_map, slice_set, ◌||◌}
 use Rattle.std.specs.Str.{bytes_eq}
 use Rattle.pr_value.specs.Symbols.{Symbol}
@@ -8,14 +8,11 @@ use Rattle.descriptor_types.specs.Descriptors.{Desc}
 use Rattle.action_eval.specs.Environments.{bound_desc}
 use Rattle.action_eval.specs.Meaning.{desc_in, with_desc_in}
 use Rattle.action_eval.specs.Names.{desc_place}
-use Rattle.action_eval.proofs.TypeLaws.{some-same, map-some, bytes_eq-sym}
+use Rattle.action_eval.proofs.TypeLaws.{some-same, bytes_eq-sym}
+use Rattle.pr_value.proofs.Shelf.{option_map-none, option_map-some}
 
 abbrev Descs : Type 0
 Descs = List (Symbol × Desc)
-
-map-none : (o : Option ℕ) → option_map suc o ≡ None → o ≡ None
-map-none None is = refl
-map-none (Some k) is = cc
 
 pub place-found : (ds : Descs) (name : Symbol) (i : ℕ) (d : Symbol × Desc) → desc_place (take i ds) name ≡ None → i < length ds → bytes_eq (get_or ds i d).0 name ≡ true → desc_place ds name ≡ Some i
 place-found [] name i d none within is = absurd (omega (arith, within))
@@ -23,7 +20,7 @@ place-found (e ∷ ds) name zero d none within is = ap (λ b. cond b (Some 0) (o
 place-found (e ∷ ds) name (suc i) d none within is =
     elim (bytes_eq e.0 name) as (λ b. cond b (Some 0) (option_map suc (desc_place (take i ds) name)) ≡ None → cond b (Some 0) (option_map suc (desc_place ds name)) ≡ Some (suc i)) [
       | true ↦ λ n. cc
-      | false ↦ λ n. ap (λ o. option_map suc o) (place-found ds name i d (map-none (desc_place (take i ds) name) n) (omega (arith, within)) is)
+      | false ↦ λ n. ap (λ o. option_map suc o) (place-found ds name i d (option_map-none suc (desc_place (take i ds) name) n) (omega (arith, within)) is)
     ] none
 
 pub place-passed : (ds : Descs) (name : Symbol) (i : ℕ) (d : Symbol × Desc) → desc_place (take i ds) name ≡ None → i < length ds → bytes_eq (get_or ds i d).0 name ≡ false → desc_place (take (suc i) ds) name ≡ None
@@ -32,7 +29,7 @@ place-passed (e ∷ ds) name zero d none within is = ap (λ b. cond b (Some 0) (
 place-passed (e ∷ ds) name (suc i) d none within is =
     elim (bytes_eq e.0 name) as (λ b. cond b (Some 0) (option_map suc (desc_place (take i ds) name)) ≡ None → cond b (Some 0) (option_map suc (desc_place (take (suc i) ds) name)) ≡ None) [
       | true ↦ λ n. cc
-      | false ↦ λ n. ap (λ o. option_map suc o) (place-passed ds name i d (map-none (desc_place (take i ds) name) n) (omega (arith, within)) is)
+      | false ↦ λ n. ap (λ o. option_map suc o) (place-passed ds name i d (option_map-none suc (desc_place (take i ds) name) n) (omega (arith, within)) is)
     ] none
 
 -- ---- at the place of a name
@@ -51,7 +48,7 @@ at_place (d ∷ ds) name i is =
     elim (bytes_eq d.0 name) as (λ b. bytes_eq d.0 name ≡ b → cond b (Some 0) (option_map suc (desc_place ds name)) ≡ Some i → AtPlace (d ∷ ds) name i) [
       | true ↦ λ e s. subst (λ (k : ℕ). AtPlace (d ∷ ds) name k) (some-same s) (first d ds name e)
       | false ↦ λ e s.
-          let m = map-some suc (desc_place ds name) i s in
+          let m = option_map-some suc (desc_place ds name) i s in
           subst (λ (k : ℕ). AtPlace (d ∷ ds) name k) m.2 (behind d ds name m.0 e (at_place ds name m.0 m.1))
     ] refl is where
       first : (d : Symbol × Desc) (ds : Descs) (name : Symbol) → bytes_eq d.0 name ≡ true → AtPlace (d ∷ ds) name 0
@@ -86,7 +83,7 @@ nowhere [] name is = record { unknown = refl; value = refl; bound = λ e. refl; 
 nowhere (d ∷ ds) name is =
     elim (bytes_eq d.0 name) as (λ b. bytes_eq d.0 name ≡ b → cond b (Some 0) (option_map suc (desc_place ds name)) ≡ None → Nowhere (d ∷ ds) name) [
       | true ↦ λ e s. cc
-      | false ↦ λ e s. behind d ds name e (nowhere ds name (map-none (desc_place ds name) s))
+      | false ↦ λ e s. behind d ds name e (nowhere ds name (option_map-none suc (desc_place ds name) s))
     ] refl is where
       behind : (d : Symbol × Desc) (ds : Descs) (name : Symbol) → bytes_eq d.0 name ≡ false → Nowhere ds name → Nowhere (d ∷ ds) name
       behind d ds name e at =

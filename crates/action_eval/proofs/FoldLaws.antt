@@ -1,15 +1,13 @@
 -- Folds over values, one value at a time.
-use Rattle.std.proofs.Common.{◌≡◌, ℕ, zero, suc, ◌+◌, ◌<◌, ◌≤◌, Bool, true, false, cond, List, [], ◌∷◌, ◌++◌, length, get_or, take, refl, ap, sym, ◌∙◌, add-one, arith}
+use Rattle.std.proofs.Common.{◌≡◌, ℕ, zero, suc, ◌+◌, ◌<◌, Bool, true, false, cond, List, [], ◌∷◌, ◌++◌, length, get_or, take, refl, ap, sym, ◌∙◌, add-one, arith}
 use Rattle.std.specs.Prelude.{map, ◌&&◌, ◌||◌}
 use Rattle.std.specs.List.{list_all, list_any}
-use Rattle.std.specs.Cmp.{first_so, second_so}
 use Rattle.std.specs.Cmp.Derive.{both_true}
-use Rattle.std.proofs.lemmas.Bool.Decides.{nat_tests}
 use Rattle.std.proofs.lemmas.List.{take_more}
-use Rattle.pr_value.specs.Capped.{cap, capped_add, capped_mul}
+use Rattle.pr_value.specs.Capped.{capped_add, capped_mul}
 use Rattle.pr_value.specs.Symbols.{Symbol}
 use Rattle.pr_value.specs.SymbolSets.{ascends, set_of}
-use Rattle.pr_value.specs.Values.{is_capped, number_in, truth_in, symbol_in, members_in}
+use Rattle.pr_value.specs.Values.{number_in, truth_in, symbol_in, members_in}
 use Rattle.pr_value.specs.declared.value.Value.{Value}
 use Rattle.pr_value.specs.declared.value.Value.TheVariants as value
 use Rattle.pr_value.proofs.SortLaws.{set_of-ascending}
@@ -18,22 +16,6 @@ use Rattle.rule_syntax.specs.declared.expr.FoldKind.{FoldKind}
 use Rattle.rule_syntax.specs.declared.expr.FoldKind.TheVariants as folding
 use Rattle.action_eval.specs.Builtins.{at, symbols_in, total, product, some_true, all_true, kept, collection, fold_value}
 use Rattle.action_eval.specs.Folds.{total_of, product_of, kept_of, fold_of}
-
-pub number-capped : (v : Value) → is_capped v ≡ true → number_in v ≤ cap
-number-capped (value.Num n) is = grind (arith, nat_tests)
-number-capped (value.Truth b) is = omega arith
-number-capped (value.Sym s) is = omega arith
-number-capped (value.Set ss) is = omega arith
-number-capped (value.List ss) is = omega arith
-
-pub all-front : (p : Value → Bool) (vs : List Value) (v : Value) → list_all p (vs ++ v ∷ []) ≡ true → list_all p vs ≡ true
-all-front p [] v all = refl
-all-front p (w ∷ vs) v all =
-    elim (p w) as (λ b. (b && list_all p (vs ++ v ∷ [])) ≡ true → (b && list_all p vs) ≡ true) [ true ↦ λ e. all-front p vs v e | false ↦ λ e. e ] all
-
-pub all-last : (p : Value → Bool) (vs : List Value) (v : Value) → list_all p (vs ++ v ∷ []) ≡ true → p v ≡ true
-all-last p [] v all = first_so (p v) true all
-all-last p (w ∷ vs) v all = all-last p vs v (second_so (p w) (list_all p (vs ++ v ∷ [])) all)
 
 total-push : (vs : List Value) (v : Value) (n : ℕ) → total_of (vs ++ v ∷ []) n ≡ total_of vs (capped_add (number_in v) n)
 total-push [] v n = refl
@@ -153,12 +135,3 @@ pub keep-set : (over : Value) (vs : List Value) (set members kept made : List Sy
 keep-set over vs set members kept made is same up k m =
     ap value.Set (m ∙ ap set_of (k ∙ ap (λ ss. kept_of ss vs) same) ∙ set_of-kept set vs up)
     ∙ ap (λ o. collection o (kept_of (members_in o) vs)) (sym is)
-
--- ---- numbers within the cap
-
-pub capped-le : (n : ℕ) → n ≤ cap → is_capped (value.Num n) ≡ true
-capped-le n within = grind (arith, nat_tests)
-
-pub all-push : (p : Value → Bool) (vs : List Value) (v : Value) → list_all p vs ≡ true → p v ≡ true → list_all p (vs ++ v ∷ []) ≡ true
-all-push p [] v all is = ap (λ b. b && true) is
-all-push p (w ∷ vs) v all is = both_true (first_so (p w) (list_all p vs) all) (all-push p vs v (second_so (p w) (list_all p vs) all) is)

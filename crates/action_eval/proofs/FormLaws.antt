@@ -1,5 +1,5 @@
 -- The form of each kind of cost expression, and what it comes to where the inputs have other costs.
-use Rattle.std.proofs.Common.{◌≡◌, ℕ, suc, ◌<◌, ◌≤◌, min, max, Bool, true, false, not, ◌||◌, List, [], ◌∷◌, length, Some, refl, sym, ap, ap₂, ◌∙◌, subst, arith}
+use Rattle.std.proofs.Common.{◌≡◌, ℕ, suc, ◌<◌, ◌≤◌, min, max, Bool, true, false, not, ◌&&◌, ◌||◌, List, [], ◌∷◌, length, Some, refl, sym, ap, ap₂, ◌∙◌, subst, arith}
 use Rattle.std.specs.Prelude.{codes, if◌then◌else◌}
 use Rattle.std.specs.Cmp.Derive.{both_true}
 use Rattle.std.specs.Str.{bytes_eq}
@@ -34,6 +34,10 @@ taken false x y is = absurd (false≢true is)
 not_taken : {A : Type 0} (b : Bool) (x y : A) → b ≡ false → (if b then x else y) ≡ y
 not_taken true x y is = absurd (false≢true (sym is))
 not_taken false x y is = refl
+
+not_not : (b : Bool) → not (not b) ≡ true → b ≡ true
+not_not true is = refl
+not_not false is = is
 
 -- a name stands at its place
 place-lt : (names : List Symbol) (d : Symbol) → contains names d ≡ true → place names d < length names
@@ -75,7 +79,7 @@ module _ (names : List Symbol) (count : ℕ) (env : Env) (catalog : Catalog) whe
   input_is d p full is reads =
       let types = read_types env.rules.properties (signatures_of env.rules.helpers) (context_of env) d p is.typed in
       let name : p ≡ cost_in env = same_symbol p (cost_in env) reads in
-      let one : contains names d ≡ true = subst (λ b. (not b || contains names d) ≡ true) reads is.of_inputs in
+      let one : contains names d ≡ true = not_not (contains names d) (subst (λ b. not (b && not (contains names d)) ≡ true) reads is.of_inputs) in
       let fit : fits env.layout (desc_in env.descs d) ≡ true = desc_in-passes (fits env.layout) env.descs d is.sound.descs types.0 in
       let declared : property_kind env.rules.properties (cost_in env) ≡ Some types.1.0 = subst (λ s. property_kind env.rules.properties s ≡ Some types.1.0) name types.1.1 in
       let set : Settable env.layout (cost_in env) (desc_in env.descs d) = subst (λ l. Settable l (cost_in env) (desc_in env.descs d)) (sym is.sound.layout)

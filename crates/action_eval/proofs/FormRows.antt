@@ -10,8 +10,9 @@ use Rattle.rule_syntax.specs.Syntax.{Expr, Exprs, Rules, binary, call, number, r
 use Rattle.rule_syntax.specs.Syntax as syntax
 use Rattle.action_eval.specs.Cost as cost
 use Rattle.action_eval.specs.Cost.{CostForm, cost_of}
-use Rattle.action_eval.specs.Environments.{Env, layout_of}
-use Rattle.action_eval.specs.Forms.{are_distinct, form, number_here, with_costs}
+use Rattle.action_eval.specs.Environments.{Env}
+use Rattle.pr_value.specs.Repeats.{are_distinct}
+use Rattle.action_eval.specs.Forms.{form, number_here, with_costs}
 
 abbrev rules : Rules
 rules = record {
@@ -26,7 +27,7 @@ rules = record {
 abbrev env : Env
 env = record {
   rules = rules;
-  layout = layout_of rules.properties;
+  layout = rules.properties;
   descs =
       (codes "A", value.Num 0 ∷ value.Num 3 ∷ value.Truth false ∷ []) ∷ (codes "B", value.Num 0 ∷ value.Num 4 ∷ value.Truth false ∷ []) ∷
       (codes "D", value.Num 0 ∷ value.Num 20 ∷ value.Truth true ∷ []) ∷ [];

@@ -1,4 +1,6 @@
+pub mod BindLaws
 mod BuiltinRows
+pub mod CappedLaws
 pub mod CostLaws
 pub mod CostParts
 pub mod CostTypes
@@ -11,7 +13,6 @@ mod FormRows
 pub mod FunctionLaws
 pub mod HelperLaws
 pub mod KindLaws
-mod LayoutLaws
 pub mod PlainLaws
 pub mod ReadLaws
 pub mod SeenFormLaws

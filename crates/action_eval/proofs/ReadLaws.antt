@@ -1,36 +1,29 @@
--- Reads of a descriptor's properties, of variables and of parameters.
-use Rattle.std.proofs.Common.{◌≡◌, ℕ, zero, suc, ◌<◌, true, false, cond, List, [], ◌∷◌, length, drop, get_or, Option, Some, None, refl, ap, sym, ◌∙◌, arith}
-use Rattle.std.specs.Prelude.{option_map, slice_get, ◌&&◌}
-use Rattle.std.specs.List.{list_all}
-use Rattle.std.specs.Cmp.{first_so, second_so}
+-- Reads of a descriptor's properties and of parameters.
+use Rattle.std.proofs.Common.{◌≡◌, ℕ, zero, suc, ◌<◌, true, false, cond, List, [], ◌∷◌, length, drop, get_or, Some, None, refl, ap, sym, ◌∙◌, arith}
+use Rattle.std.specs.Prelude.{option_map}
 use Rattle.std.specs.Str.{bytes_eq}
 use Rattle.pr_value.specs.Symbols.{Symbol}
-use Rattle.pr_value.specs.Values.{has_kind, is_capped}
 use Rattle.pr_value.specs.declared.value.Value.{Value}
 use Rattle.pr_value.specs.declared.value.Value.TheVariants as value
-use Rattle.pr_value.proofs.ValueLaws.{is_capped-has_kind}
-use Rattle.descriptor_types.specs.Descriptors.{Layout, Desc, place_of, fits, value_of}
+use Rattle.descriptor_types.specs.Descriptors.{Layout, Desc, place_of, value_of}
 use Rattle.rule_syntax.specs.declared.parts.Param.{Param}
 use Rattle.action_eval.specs.Builtins.{at}
 use Rattle.action_eval.specs.Meaning.{bound, value_in}
-use Rattle.action_eval.proofs.TypeLaws.{some-same, map-some}
-
-map-none : (o : Option ℕ) → option_map suc o ≡ None → o ≡ None
-map-none None is = refl
-map-none (Some k) is = cc
+use Rattle.action_eval.proofs.TypeLaws.{some-same}
+use Rattle.pr_value.proofs.Shelf.{option_map-none, option_map-some}
 
 -- ---- properties
 
 -- the value of a property is what stands at its place
-pub value_of-place : (ps : Layout) (p : Symbol) (d : Desc) (i : ℕ) (v : Value) → place_of ps p ≡ Some i → slice_get d i ≡ Some v → value_of ps p d ≡ v
-value_of-place [] p d i v is there = cc
-value_of-place (q ∷ ps) p [] i v is there = cc
-value_of-place (q ∷ ps) p (w ∷ d) i v is there =
-    elim (bytes_eq q.name p) as (λ b. cond b (Some 0) (option_map suc (place_of ps p)) ≡ Some i → cond b w (value_of ps p d) ≡ v) [
-      | true ↦ λ e. some-same (ap (slice_get (w ∷ d)) (some-same e) ∙ there)
+pub value_of-place : (ps : Layout) (p : Symbol) (d : Desc) (i : ℕ) → place_of ps p ≡ Some i → value_of ps p d ≡ at d i
+value_of-place [] p d i is = cc
+value_of-place (q ∷ ps) p [] i is = refl
+value_of-place (q ∷ ps) p (w ∷ d) i is =
+    elim (bytes_eq q.name p) as (λ b. cond b (Some 0) (option_map suc (place_of ps p)) ≡ Some i → cond b w (value_of ps p d) ≡ at (w ∷ d) i) [
+      | true ↦ λ e. ap (at (w ∷ d)) (some-same e)
       | false ↦ λ e.
-          let m = map-some suc (place_of ps p) i e in
-          value_of-place ps p d m.0 v m.1 (ap (slice_get (w ∷ d)) m.2 ∙ there)
+          let m = option_map-some suc (place_of ps p) i e in
+          value_of-place ps p d m.0 m.1 ∙ ap (at (w ∷ d)) m.2
     ] is
 
 pub value_of-nowhere : (ps : Layout) (p : Symbol) (d : Desc) → place_of ps p ≡ None → value_of ps p d ≡ value.Num 0
@@ -39,50 +32,14 @@ value_of-nowhere (q ∷ ps) p [] is = refl
 value_of-nowhere (q ∷ ps) p (w ∷ d) is =
     elim (bytes_eq q.name p) as (λ b. cond b (Some 0) (option_map suc (place_of ps p)) ≡ None → cond b w (value_of ps p d) ≡ value.Num 0) [
       | true ↦ λ e. cc
-      | false ↦ λ e. value_of-nowhere ps p d (map-none (place_of ps p) e)
+      | false ↦ λ e. value_of-nowhere ps p d (option_map-none suc (place_of ps p) e)
     ] is
 
 pub value_of-nothing : (ps : Layout) (p : Symbol) → value_of ps p [] ≡ value.Num 0
 value_of-nothing [] p = refl
 value_of-nothing (q ∷ ps) p = refl
 
--- a descriptor that fits is as long as the layout
-pub place-within : (ps : Layout) (p : Symbol) (d : Desc) (i : ℕ) → fits ps d ≡ true → place_of ps p ≡ Some i → i < length d
-place-within [] p d i fit is = cc
-place-within (q ∷ ps) p [] i fit is = cc
-place-within (q ∷ ps) p (w ∷ d) i fit is =
-    elim (bytes_eq q.name p) as (λ b. cond b (Some 0) (option_map suc (place_of ps p)) ≡ Some i → i < length (w ∷ d)) [
-      | true ↦ λ e. let z : 0 ≡ i = some-same e in omega arith
-      | false ↦ λ e.
-          let m = map-some suc (place_of ps p) i e in
-          let k = place-within ps p d m.0 (second_so (has_kind q.kind w) (fits ps d) fit) m.1 in
-          omega (arith, k, m.2)
-    ] is
-
-pub value_of-capped : (ps : Layout) (p : Symbol) (d : Desc) → fits ps d ≡ true → is_capped (value_of ps p d) ≡ true
-value_of-capped [] p d fit = refl
-value_of-capped (q ∷ ps) p [] fit = refl
-value_of-capped (q ∷ ps) p (w ∷ d) fit =
-    elim (bytes_eq q.name p) as (λ b. is_capped (cond b w (value_of ps p d)) ≡ true) [
-      | true ↦ is_capped-has_kind q.kind w (first_so (has_kind q.kind w) (fits ps d) fit)
-      | false ↦ value_of-capped ps p d (second_so (has_kind q.kind w) (fits ps d) fit)
-    ]
-
--- ---- variables
-
-pub value_in-capped : (vs : List (Symbol × Value)) (x : Symbol) → list_all (λ v. is_capped v.1) vs ≡ true → is_capped (value_in vs x) ≡ true
-value_in-capped [] x all = refl
-value_in-capped (v ∷ vs) x all =
-    elim (bytes_eq v.0 x) as (λ b. is_capped (cond b v.1 (value_in vs x)) ≡ true) [
-      | true ↦ first_so (is_capped v.1) (list_all (λ v. is_capped v.1) vs) all
-      | false ↦ value_in-capped vs x (second_so (is_capped v.1) (list_all (λ v. is_capped v.1) vs) all)
-    ]
-
-pub bound-capped : (ps : List Param) (vs : List Value) → list_all is_capped vs ≡ true → list_all (λ v. is_capped v.1) (bound ps vs) ≡ true
-bound-capped [] vs all = refl
-bound-capped (p ∷ ps) [] all = refl
-bound-capped (p ∷ ps) (v ∷ vs) all =
-    ap (λ b. b && list_all (λ v. is_capped v.1) (bound ps vs)) (first_so (is_capped v) (list_all is_capped vs) all) ∙ bound-capped ps vs (second_so (is_capped v) (list_all is_capped vs) all)
+-- ---- parameters
 
 bound-nothing : (ps : List Param) (x : Symbol) → value_in (bound ps []) x ≡ value.Num 0
 bound-nothing [] x = refl

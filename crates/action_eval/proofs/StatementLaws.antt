@@ -1,6 +1,6 @@
 -- What statements leave: places of properties, soundness, and one statement more.
 use Rattle.std.proofs.Common.{◌≡◌, ℕ, zero, suc, ◌+◌, ◌<◌, Bool, true, false, cond, List, [], ◌∷◌, ◌++◌, length, take, get_or, map, Option, Some, None, Result, Ok, Err, refl, ap, sym, ◌∙◌, subst, arith}
-use Rattle.std.specs.Prelude.{option_map, slice_set, OnErr, ◌&&◌}
+use Rattle.std.specs.Prelude.{OnErr, ◌&&◌}
 use Rattle.std.specs.List.{list_all}
 use Rattle.std.specs.Cmp.{first_so, second_so}
 use Rattle.std.specs.Cmp.Derive.{both_true}
@@ -8,56 +8,29 @@ use Rattle.std.specs.Str.{bytes_eq}
 use Rattle.std.proofs.lemmas.List.{take_more}
 use Rattle.pr_value.specs.Symbols.{Symbol}
 use Rattle.pr_value.specs.SymbolSets.{contains}
-use Rattle.pr_value.specs.Values.{has_kind, is_capped}
+use Rattle.pr_value.specs.Values.{has_kind}
 use Rattle.pr_value.specs.declared.kind.Kind.{Kind}
 use Rattle.pr_value.specs.declared.kind.Kind.TheVariants as kind
 use Rattle.pr_value.specs.declared.value.Value.{Value}
 use Rattle.pr_value.specs.declared.value.Value.TheVariants as value
 use Rattle.catalog.specs.Contents.{Catalog}
-use Rattle.descriptor_types.specs.Descriptors.{Layout, Desc, place_of, fits, with_value}
+use Rattle.descriptor_types.specs.Descriptors.{Layout, Desc, fits, with_value}
 use Rattle.rule_syntax.specs.declared.expr.Stmt as rust
 use Rattle.rule_syntax.specs.declared.parts.Helper as helper
-use Rattle.rule_syntax.specs.declared.parts.Property.{Property}
+use Rattle.pr_value.specs.declared.property.Property.{Property}
 use Rattle.rule_syntax.specs.Syntax.{Expr, Stmt, set, copy, Helper, Rules}
 use Rattle.rule_syntax.specs.Seen.{seen_stmt, seen_helper}
 use Rattle.rule_syntax.specs.Typing.{Context, type_of_kind, property_kind, fits_property, is_typed_stmt, signatures_of}
-use Rattle.action_eval.specs.Environments.{Env, IsSound, layout_of, context_of, scope_of, type_in, are_typed_here, value_here, after}
+use Rattle.action_eval.specs.Environments.{Env, IsSound, context_of, scope_of, type_in, are_typed_here, value_here, after}
 use Rattle.action_eval.specs.Meaning.{Scope, desc_in, with_desc_in, functions, value_by, run_one, run}
-use Rattle.action_eval.specs.Names.{kind_of, seen_vars}
+use Rattle.action_eval.specs.Names.{seen_vars}
 use Rattle.action_eval.specs.SeenEnv.{seen_env}
 use Rattle.action_eval.specs.declared.env.Env as rust_env
 use Rattle.action_eval.specs.declared.names.Vars.{Vars}
 use Rattle.action_eval.proofs.EvalLaws.{scope_in}
 use Rattle.action_eval.proofs.HelperLaws.{sound-functions}
-use Rattle.action_eval.proofs.KindLaws.{kind-value, fits-desc_in}
-use Rattle.action_eval.proofs.TypeLaws.{some-same, map-some, is_type-is}
-
-map-none : (o : Option ℕ) → option_map suc o ≡ None → o ≡ None
-map-none None is = refl
-map-none (Some k) is = cc
-
--- ---- writes to a property
-
-pub with_value-nowhere : (ps : Layout) (p : Symbol) (v : Value) (d : Desc) → place_of ps p ≡ None → with_value ps p v d ≡ d
-with_value-nowhere [] p v d is = refl
-with_value-nowhere (q ∷ ps) p v [] is = refl
-with_value-nowhere (q ∷ ps) p v (w ∷ d) is =
-    elim (bytes_eq q.name p) as (λ b. cond b (Some 0) (option_map suc (place_of ps p)) ≡ None → cond b (v ∷ d) (w ∷ with_value ps p v d) ≡ w ∷ d) [
-      | true ↦ λ e. cc
-      | false ↦ λ e. ap (λ (f : Desc). w ∷ f) (with_value-nowhere ps p v d (map-none (place_of ps p) e))
-    ] is
-
-pub with_value-place : (ps : Layout) (p : Symbol) (v : Value) (d : Desc) (i : ℕ) → place_of ps p ≡ Some i → i < length d → with_value ps p v d ≡ slice_set d i v
-with_value-place [] p v d i is within = cc
-with_value-place (q ∷ ps) p v [] i is within = absurd (omega (arith, within))
-with_value-place (q ∷ ps) p v (w ∷ d) i is within =
-    elim (bytes_eq q.name p) as (λ b. cond b (Some 0) (option_map suc (place_of ps p)) ≡ Some i → cond b (v ∷ d) (w ∷ with_value ps p v d) ≡ slice_set (w ∷ d) i v) [
-      | true ↦ λ e. ap (λ (k : ℕ). slice_set (w ∷ d) k v) (some-same e)
-      | false ↦ λ e.
-          let m = map-some suc (place_of ps p) i e in
-          let behind : suc m.0 ≡ i = m.2 in
-          ap (λ (f : Desc). w ∷ f) (with_value-place ps p v d m.0 m.1 (omega (arith, within, behind))) ∙ ap (λ (k : ℕ). slice_set (w ∷ d) k v) behind
-    ] is
+use Rattle.action_eval.proofs.KindLaws.{Is, value-is, fits-desc_in}
+use Rattle.action_eval.proofs.TypeLaws.{some-same, is_type-is}
 
 pub with_desc_in-same : (ds : List (Symbol × Desc)) (name : Symbol) → with_desc_in ds name (desc_in ds name) ≡ ds
 with_desc_in-same [] name = refl
@@ -69,13 +42,13 @@ with_desc_in-same (d ∷ ds) name =
 
 -- ---- soundness
 
-fits-with_value : (ps : List Property) (p : Symbol) (k : Kind) (v : Value) (d : Desc) → property_kind ps p ≡ Some k → has_kind k v ≡ true → fits (layout_of ps) d ≡ true → fits (layout_of ps) (with_value (layout_of ps) p v d) ≡ true
+fits-with_value : (ps : List Property) (p : Symbol) (k : Kind) (v : Value) (d : Desc) → property_kind ps p ≡ Some k → has_kind k v ≡ true → fits ps d ≡ true → fits ps (with_value ps p v d) ≡ true
 fits-with_value [] p k v d is has fit = fit
 fits-with_value (q ∷ ps) p k v [] is has fit = fit
 fits-with_value (q ∷ ps) p k v (w ∷ d) is has fit =
-    elim (bytes_eq q.name p) as (λ b. cond b (Some q.kind) (property_kind ps p) ≡ Some k → fits (layout_of (q ∷ ps)) (cond b (v ∷ d) (w ∷ with_value (layout_of ps) p v d)) ≡ true) [
-      | true ↦ λ e. both_true (subst (λ (j : Kind). has_kind j v ≡ true) (sym (some-same e)) has) (second_so (has_kind q.kind w) (fits (layout_of ps) d) fit)
-      | false ↦ λ e. both_true (first_so (has_kind q.kind w) (fits (layout_of ps) d) fit) (fits-with_value ps p k v d e has (second_so (has_kind q.kind w) (fits (layout_of ps) d) fit))
+    elim (bytes_eq q.name p) as (λ b. cond b (Some q.kind) (property_kind ps p) ≡ Some k → fits (q ∷ ps) (cond b (v ∷ d) (w ∷ with_value ps p v d)) ≡ true) [
+      | true ↦ λ e. both_true (subst (λ (j : Kind). has_kind j v ≡ true) (sym (some-same e)) has) (second_so (has_kind q.kind w) (fits ps d) fit)
+      | false ↦ λ e. both_true (first_so (has_kind q.kind w) (fits ps d) fit) (fits-with_value ps p k v d e has (second_so (has_kind q.kind w) (fits ps d) fit))
     ] is
 
 fits-with_desc_in : (layout : Layout) (ds : List (Symbol × Desc)) (name : Symbol) (e : Desc) → list_all (λ d. fits layout d.1) ds ≡ true → fits layout e ≡ true → list_all (λ d. fits layout d.1) (with_desc_in ds name e) ≡ true
@@ -200,24 +173,28 @@ on-err (Err e) P p = p
 
 -- ---- the value of an expression
 
-has_kind-of : (v : Value) → is_capped v ≡ true → has_kind (kind_of v) v ≡ true
-has_kind-of (value.Num n) capped = capped
-has_kind-of (value.Truth b) capped = refl
-has_kind-of (value.Sym s) capped = refl
-has_kind-of (value.Set ss) capped = refl
-has_kind-of (value.List ss) capped = refl
+has_kind-of : (t : Kind) (v : Value) → Is t v → has_kind t v ≡ true
+has_kind-of t (value.Num n) is = subst (λ (k : Kind). has_kind k (value.Num n) ≡ true) is.0 is.1
+has_kind-of t (value.Truth b) is = subst (λ (k : Kind). has_kind k (value.Truth b) ≡ true) is.0 refl
+has_kind-of t (value.Sym s) is = subst (λ (k : Kind). has_kind k (value.Sym s) ≡ true) is.0 refl
+has_kind-of t (value.Set ss) is = subst (λ (k : Kind). has_kind k (value.Set ss) ≡ true) is.0 refl
+has_kind-of t (value.List ss) is = subst (λ (k : Kind). has_kind k (value.List ss) ≡ true) is.0 refl
 
 -- it is of the expression's type, and a number within the cap
-pub has_kind-value : (own : rust_env.Env) (hs : List helper.Helper) (catalog : Catalog) (vs : Vars) (e : Expr) (v : Value) (t : Kind) → IsSound (seen_env own) → map seen_helper hs ≡ (seen_env own).rules.helpers → seen_vars vs ≡ []
-    → v ≡ value_by (seen_env own).layout (functions (seen_env own).layout (map seen_helper hs) catalog) (scope_in own vs) e → is_capped v ≡ true → type_in (seen_env own) e ≡ Some t → has_kind t v ≡ true
-has_kind-value own hs catalog vs e v t sound same none is capped typed =
+pub has_kind-value_here : (env : Env) (catalog : Catalog) (e : Expr) (t : Kind) → IsSound env → type_in env e ≡ Some t → has_kind t (value_here env catalog e) ≡ true
+has_kind-value_here env catalog e t sound typed =
+    let ps = env.rules.properties in
+    let there : has_kind t (value_by ps (functions ps env.rules.helpers catalog) (scope_of env) e) ≡ true =
+    has_kind-of t _
+    (value-is ps (signatures_of env.rules.helpers) (functions ps env.rules.helpers catalog) (sound-functions ps catalog env.rules.helpers sound.helpers) e (scope_of env) t
+    record { descs = subst (λ (l : Layout). list_all (λ d. fits l d.1) env.descs ≡ true) sound.layout sound.descs; values = refl } typed)
+    in
+    subst (λ (l : Layout). has_kind t (value_by l (functions l env.rules.helpers catalog) (scope_of env) e) ≡ true) (sym sound.layout) there
+
+-- the value that is made over the rules' own helpers and no variables
+pub value-here : (own : rust_env.Env) (hs : List helper.Helper) (catalog : Catalog) (vs : Vars) (e : Expr) → map seen_helper hs ≡ (seen_env own).rules.helpers → seen_vars vs ≡ []
+    → value_by (seen_env own).layout (functions (seen_env own).layout (map seen_helper hs) catalog) (scope_in own vs) e ≡ value_here (seen_env own) catalog e
+value-here own hs catalog vs e same none =
     let env = seen_env own in
-    let here : v ≡ value_here env catalog e =
-    is ∙ ap (λ (gs : List Helper). value_by env.layout (functions env.layout gs catalog) (scope_in own vs) e) same
+    ap (λ (gs : List Helper). value_by env.layout (functions env.layout gs catalog) (scope_in own vs) e) same
     ∙ ap (λ (ws : List (Symbol × Value)). value_by env.layout (functions env.layout env.rules.helpers catalog) (record { descs = env.descs; values = ws }) e) none
-    in
-    let kind = ap kind_of here ∙
-    kind-value env.rules.properties env.layout (signatures_of env.rules.helpers) (functions env.layout env.rules.helpers catalog) sound.layout
-    (sound-functions env.rules.properties env.layout catalog env.rules.helpers sound.layout sound.helpers) e (scope_of env) t sound.descs typed
-    in
-    subst (λ (k : Kind). has_kind k v ≡ true) kind (has_kind-of v capped)

@@ -1,6 +1,6 @@
 -- What a type that is there says of its parts, and tests of kinds.
 use Rattle.std.proofs.Common.{◌≡◌, Bool, true, false, cond, List, [], ◌∷◌, Option, Some, None, refl, ap, sym, ◌∙◌}
-use Rattle.std.specs.Prelude.{option_map, option_and_then}
+use Rattle.pr_value.proofs.Shelf.{bytes_eq-same}
 use Rattle.std.specs.Cmp.{first_so, second_so}
 use Rattle.std.specs.Cmp.Lexicographic.{bytes_decides}
 use Rattle.std.specs.Str.{bytes_eq}
@@ -11,14 +11,6 @@ use Rattle.rule_syntax.specs.Typing.{same_type, same_types, is_type}
 
 pub some-same : {A : Type 0} {x y : A} → Some x ≡ Some y → x ≡ y
 some-same e = cc
-
-pub and_then-some : {A B : Type 0} (f : A → Option B) (o : Option A) (y : B) → option_and_then f o ≡ Some y → (x : A) × (o ≡ Some x) × (f x ≡ Some y)
-and_then-some f None y is = cc
-and_then-some f (Some x) y is = (x, refl, is)
-
-pub map-some : {A B : Type 0} (f : A → B) (o : Option A) (y : B) → option_map f o ≡ Some y → (x : A) × (o ≡ Some x) × (f x ≡ y)
-map-some f None y is = cc
-map-some f (Some x) y is = (x, refl, some-same is)
 
 pub cond-some : {A : Type 0} (b : Bool) (x y : A) → cond b (Some x) None ≡ Some y → (b ≡ true) × (x ≡ y)
 cond-some true x y is = (refl, some-same is)
@@ -44,16 +36,13 @@ pub is_type-is : (t : Kind) (o : Option Kind) → is_type t o ≡ true → o ≡
 is_type-is t None is = cc
 is_type-is t (Some u) is = ap Some (sym (same_type-is t u is))
 
-pub bytes_eq-is : (s t : Symbol) → bytes_eq s t ≡ true → s ≡ t
-bytes_eq-is s t is = (bytes_decides s t).0 is
-
 pub bytes_eq-sym : (s t : Symbol) → bytes_eq s t ≡ bytes_eq t s
 bytes_eq-sym s t =
     elim (bytes_eq s t) as (λ b. bytes_eq s t ≡ b → b ≡ bytes_eq t s) [
-      | true ↦ λ e. sym ((bytes_decides t s).1 (sym (bytes_eq-is s t e)))
+      | true ↦ λ e. sym ((bytes_decides t s).1 (sym (bytes_eq-same s t e)))
       | false ↦ λ e.
           elim (bytes_eq t s) as (λ c. bytes_eq t s ≡ c → false ≡ c) [
-            | true ↦ λ f. sym e ∙ (bytes_decides s t).1 (sym (bytes_eq-is t s f))
+            | true ↦ λ f. sym e ∙ (bytes_decides s t).1 (sym (bytes_eq-same t s f))
             | false ↦ λ f. refl
           ] refl
     ] refl

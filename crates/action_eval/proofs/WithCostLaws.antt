@@ -12,11 +12,11 @@ use Rattle.pr_value.specs.declared.kind.Kind.{Kind}
 use Rattle.pr_value.specs.declared.value.Value.{Value}
 use Rattle.pr_value.specs.declared.value.Value.TheVariants as value
 use Rattle.descriptor_types.specs.Descriptors.{Desc, Layout, value_of, with_value, fits}
-use Rattle.rule_syntax.specs.declared.parts.Property.{Property}
+use Rattle.pr_value.specs.declared.property.Property.{Property}
 use Rattle.rule_syntax.specs.Typing.{property_kind}
 use Rattle.action_eval.specs.Meaning.{desc_in, with_desc_in}
-use Rattle.action_eval.specs.Environments.{layout_of}
-use Rattle.action_eval.specs.Forms.{are_distinct, place, with_cost, descs_with_costs}
+use Rattle.pr_value.specs.Repeats.{are_distinct}
+use Rattle.action_eval.specs.Forms.{place, with_cost, descs_with_costs}
 use Rattle.action_eval.proofs.PlainLaws.{SameBut, or_first, or_second}
 
 -- equal symbols pass the test, and so both ways round
@@ -51,14 +51,14 @@ value_of-other (q ∷ layout) cost p w (v ∷ x) other =
 abbrev pub Settable : Layout → Symbol → Desc → Type 0
 Settable layout cost x = (w : Value) → value_of layout cost (with_value layout cost w x) ≡ w
 
-pub settable : (ps : List Property) (cost : Symbol) (x : Desc) (k : Kind) → property_kind ps cost ≡ Some k → fits (layout_of ps) x ≡ true → Settable (layout_of ps) cost x
+pub settable : (ps : List Property) (cost : Symbol) (x : Desc) (k : Kind) → property_kind ps cost ≡ Some k → fits ps x ≡ true → Settable ps cost x
 settable [] cost x k there fit w = cc
 settable (p ∷ ps) cost [] k there fit w = absurd (false≢true fit)
 settable (p ∷ ps) cost (v ∷ x) k there fit w =
-    elim (bytes_eq p.name cost) as (λ b. bytes_eq p.name cost ≡ b → (if b then Some p.kind else property_kind ps cost) ≡ Some k → value_of (layout_of (p ∷ ps)) cost (if b then w ∷ x else v ∷ with_value (layout_of ps) cost w x) ≡ w) [
-      | true ↦ λ is there. ap (λ b. if b then w else value_of (layout_of ps) cost x) is
+    elim (bytes_eq p.name cost) as (λ b. bytes_eq p.name cost ≡ b → (if b then Some p.kind else property_kind ps cost) ≡ Some k → value_of ((p ∷ ps)) cost (if b then w ∷ x else v ∷ with_value ps cost w x) ≡ w) [
+      | true ↦ λ is there. ap (λ b. if b then w else value_of ps cost x) is
       | false ↦ λ is there.
-          ap (λ b. if b then v else value_of (layout_of ps) cost (with_value (layout_of ps) cost w x)) is ∙ settable ps cost x k there (second_so _ _ fit) w
+          ap (λ b. if b then v else value_of ps cost (with_value ps cost w x)) is ∙ settable ps cost x k there (second_so _ _ fit) w
     ] refl there
 
 -- ---- the descriptors of some names

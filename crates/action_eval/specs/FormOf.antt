@@ -7,7 +7,8 @@ use Rattle.rule_syntax.specs.CostForms.{is_cost_form, reads_cost_of}
 use Rattle.rule_syntax.specs.Syntax.{Expr}
 use Rattle.action_eval.specs.Environments.{Env, IsSound, type_in}
 use Rattle.action_eval.specs.Cost.{CostForm, cost_of, is_over}
-use Rattle.action_eval.specs.Forms.{are_distinct, cost_in, form, number_here, with_costs}
+use Rattle.pr_value.specs.Repeats.{are_distinct}
+use Rattle.action_eval.specs.Forms.{cost_in, form, number_here, with_costs}
 
 -- a number of one of the forms, which reads no cost but those of inputs of these names
 pub record IsCost (names : List Symbol) (env : Env) (e : Expr) : Type 0 where

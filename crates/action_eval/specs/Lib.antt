@@ -1,12 +1,13 @@
 pub mod Builtins
 pub mod Cost
 pub mod CostLaws
+pub mod EnvLaws
 pub mod Environments
 pub mod Folds
 pub mod FormOf
 pub mod Forms
-pub mod Functions
 pub mod Meaning
 pub mod Names
 pub mod SeenEnv
 pub mod SeenForms
+pub mod Types

@@ -1,52 +1,57 @@
 // What the built-in functions give of their arguments.
-ghost use Rattle.std.specs.Prelude.{◌≡◌, ◌≤◌, true, map, is_some, unwrap_or, slice_get, codes, if◌then◌else◌, IfOk};
-ghost use Rattle.std.specs.List.{list_all};
-ghost use Rattle.std.specs.Option.{option_copied, ForSome};
-ghost use Rattle.pr_value.specs.Capped.{cap};
-ghost use Rattle.pr_value.specs.Values.{is_capped, members_in, truth_in};
-ghost use Rattle.catalog.specs.Contents.{Catalog};
-ghost use Rattle.rule_syntax.specs.Typing as typing;
-ghost use Rattle.rule_syntax.specs.Typing.{result_in};
+ghost use Rattle.std.specs.Prelude.{◌≡◌, ◌++◌, unwrap_or, slice_get, codes, if◌then◌else◌, IfOk};
+ghost use Rattle.std.specs.Option.{option_copied};
+ghost use Rattle.pr_value.specs.SymbolSets.{set_of};
+ghost use Rattle.pr_value.specs.Values.{truth_in};
 ghost use Rattle.action_eval.specs.Builtins as spec;
-ghost use Rattle.action_eval.specs.Builtins.{at};
-ghost use Rattle.action_eval.specs.Functions.{builtin_value, function_name, set_function_name, list_function_name, found_of, set_in};
-ghost use Rattle.action_eval.specs.Names.{kind_of};
+ghost use Rattle.action_eval.specs.Builtins.{at, builtin_value};
 
-use crate::collections::{copy_of, list_of, push_all, symbols_in};
-use crate::function::{Function, ListFunction, SetFunction};
-use crate::parts::{copy_at, dash, members_at, number_at, set_at, symbol_at, symbol_in, truth_at};
+use crate::arguments::{copy_at, members_at, number_at, set_at, symbol_at, truth_at};
+use crate::collections::{list_of, push_all, symbols_in};
 use catalog::Catalog;
-use pr_value::{CAP, Kind, Memory, SymSet, Symbol, Value, cap_log2};
+use pr_value::{CAP, Memory, SymList, SymSet, Symbol, Value, cap_log2, copy_symbols, symbol_in};
+use rule_syntax::Builtin;
 use std::alloc::Global;
 
 /// What a built-in function gives of its arguments.
 pub fn apply(
     alloc: Global,
-    function: Function,
+    function: Builtin,
     args: &[Value],
     catalog: &Catalog,
 ) -> Result<Value, Memory>
-    requires typed { is_some (result_in typing.builtins (function_name function) (map kind_of args.now)) ≡ true }
-    requires capped { list_all is_capped args.now ≡ true }
-    ensures value { IfOk result (λ v. v ≡ builtin_value catalog.now (function_name function) args.now) }
-    ensures capped { IfOk result (λ v. is_capped v ≡ true) }
+    ensures { IfOk result (λ v. v ≡ builtin_value catalog.now function args.now) }
 {
+    let none = SymSet::new(alloc);
+    let first = set_at(args, 0, &none);
+    let second = set_at(args, 1, &none);
     match function {
-        Function::If => choice(alloc, args),
-        Function::Not => Ok(Value::Truth(!truth_at(args, 0))),
-        Function::Min => Ok(Value::Num(number_at(args, 0).min(number_at(args, 1)))),
-        Function::Max => Ok(Value::Num(number_at(args, 0).max(number_at(args, 1)))),
-        Function::Log2 => Ok(Value::Num(cap_log2(number_at(args, 0)))),
-        Function::OfSets(function) => of_sets(alloc, function, args),
-        Function::OfLists(function) => of_lists(alloc, function, args),
-        Function::LookUp(kind) => look_up(alloc, kind, args, catalog),
+        Builtin::If => choice(alloc, args),
+        Builtin::Not => Ok(Value::Truth(!truth_at(args, 0))),
+        Builtin::Min => Ok(Value::Num(number_at(args, 0).min(number_at(args, 1)))),
+        Builtin::Max => Ok(Value::Num(number_at(args, 0).max(number_at(args, 1)))),
+        Builtin::Log2 => Ok(Value::Num(cap_log2(number_at(args, 0)))),
+        Builtin::Union => Ok(Value::Set(first.union(alloc, second)?)),
+        Builtin::Minus => Ok(Value::Set(first.minus(alloc, second)?)),
+        Builtin::Meet => Ok(Value::Set(first.meet(alloc, second)?)),
+        Builtin::Has => Ok(Value::Truth(first.contains(&symbol_at(alloc, args, 1)?))),
+        Builtin::Subset => Ok(Value::Truth(first.subset(second))),
+        Builtin::Size => Ok(Value::Num(count(first.as_slice()))),
+        Builtin::Length => Ok(Value::Num(count(members_at(args, 0)))),
+        Builtin::At => member_at(alloc, members_at(args, 0), number_at(args, 1)),
+        Builtin::Prefix => Ok(Value::Truth(is_prefix(members_at(args, 0), members_at(args, 1)))),
+        Builtin::Concat => concat(alloc, members_at(args, 0), members_at(args, 1)),
+        Builtin::Elems => elements(alloc, members_at(args, 0)),
+        Builtin::NumAt => Ok(num_found(found(alloc, args, catalog)?)),
+        Builtin::TruthAt => Ok(truth_found(found(alloc, args, catalog)?)),
+        Builtin::SymbolAt => symbol_found(alloc, found(alloc, args, catalog)?),
+        Builtin::SetAt => set_found(alloc, found(alloc, args, catalog)?),
+        Builtin::ListAt => list_found(alloc, found(alloc, args, catalog)?),
     }
 }
 
 fn choice(alloc: Global, args: &[Value]) -> Result<Value, Memory>
-    requires { list_all is_capped args.now ≡ true }
-    ensures value { IfOk result (λ v. v ≡ (if truth_in (at args.now 0) then at args.now 1 else at args.now 2)) }
-    ensures capped { IfOk result (λ v. is_capped v ≡ true) }
+    ensures { IfOk result (λ v. v ≡ (if truth_in (at args.now 0) then at args.now 1 else at args.now 2)) }
 {
     if truth_at(args, 0) {
         copy_at(alloc, args, 1)
@@ -55,60 +60,19 @@ fn choice(alloc: Global, args: &[Value]) -> Result<Value, Memory>
     }
 }
 
-fn of_sets(alloc: Global, function: SetFunction, args: &[Value]) -> Result<Value, Memory>
-    requires first { members_in (at args.now 0) ≡ set_in (at args.now 0) }
-    requires second { members_in (at args.now 1) ≡ set_in (at args.now 1) }
-    ensures capped { IfOk result (λ v. is_capped v ≡ true) }
-    ensures value { (catalog : Catalog) → IfOk result (λ v. v ≡ builtin_value catalog (set_function_name function) args.now) }
-{
-    let none = SymSet::new(alloc);
-    let first = set_at(args, 0, &none);
-    let second = set_at(args, 1, &none);
-    match function {
-        SetFunction::Union => Ok(Value::Set(first.union(alloc, second)?)),
-        SetFunction::Minus => Ok(Value::Set(first.minus(alloc, second)?)),
-        SetFunction::Meet => Ok(Value::Set(first.meet(alloc, second)?)),
-        SetFunction::Has => {
-            let symbol = symbol_at(alloc, args, 1)?;
-            Ok(Value::Truth(first.contains(&symbol)))
-        }
-        SetFunction::Subset => Ok(Value::Truth(first.subset(second))),
-        SetFunction::Size => Ok(Value::Num(count(first.as_slice()))),
-    }
-}
-
-fn of_lists(alloc: Global, function: ListFunction, args: &[Value]) -> Result<Value, Memory>
-    ensures capped { IfOk result (λ v. is_capped v ≡ true) }
-    ensures value { (catalog : Catalog) → IfOk result (λ v. v ≡ builtin_value catalog (list_function_name function) args.now) }
-{
-    let first = members_at(args, 0);
-    match function {
-        ListFunction::Length => Ok(Value::Num(count(first))),
-        ListFunction::At => Ok(Value::Sym(symbol_of(alloc, first, number_at(args, 1))?)),
-        ListFunction::Prefix => Ok(Value::Truth(is_prefix(first, members_at(args, 1)))),
-        ListFunction::Concat => {
-            let mut list = list_of(alloc, first)?;
-            push_all(alloc, members_at(args, 1), &mut list)?;
-            Ok(Value::List(list))
-        }
-        ListFunction::Elems => Ok(Value::Set(SymSet::from_symbols(alloc, copy_of(alloc, first)?)?)),
-    }
-}
-
 fn count(symbols: &[Symbol]) -> u64
-    ensures value { result ≡ spec.capped_length symbols.now }
-    ensures within { result ≤ cap }
+    ensures { result ≡ spec.capped_length symbols.now }
 {
     (symbols.len() as u64).min(CAP)
 }
 
 /// The symbol at a place from 0, or `-`.
-fn symbol_of(alloc: Global, symbols: &[Symbol], place: u64) -> Result<Symbol, Memory>
-    ensures { IfOk result (λ s. s ≡ unwrap_or (slice_get symbols.now place) (codes "-")) }
+fn member_at(alloc: Global, symbols: &[Symbol], place: u64) -> Result<Value, Memory>
+    ensures { IfOk result (λ v. v ≡ Value.Sym (unwrap_or (slice_get symbols.now place) (codes "-"))) }
 {
     match symbols.get(place as usize) {
-        Some(symbol) => symbol.copy(alloc),
-        None => dash(alloc),
+        Some(symbol) => Ok(Value::Sym(symbol.copy(alloc)?)),
+        None => Ok(Value::Sym(Symbol::dash(alloc)?)),
     }
 }
 
@@ -118,40 +82,80 @@ fn is_prefix(first: &[Symbol], second: &[Symbol]) -> bool
     second.starts_with(first)
 }
 
-fn look_up(alloc: Global, kind: Kind, args: &[Value], catalog: &Catalog) -> Result<Value, Memory>
-    ensures value { IfOk result (λ v. v ≡ found_of kind (spec.found catalog.now args.now)) }
-    ensures capped { IfOk result (λ v. is_capped v ≡ true) }
+fn concat(alloc: Global, first: &[Symbol], second: &[Symbol]) -> Result<Value, Memory>
+    ensures { IfOk result (λ v. v ≡ Value.List (first.now ++ second.now)) }
+{
+    let mut list = list_of(alloc, first)?;
+    push_all(alloc, second, &mut list)?;
+    Ok(Value::List(list))
+}
+
+fn elements(alloc: Global, symbols: &[Symbol]) -> Result<Value, Memory>
+    ensures { IfOk result (λ v. v ≡ Value.Set (set_of symbols.now)) }
+{
+    let copies = copy_symbols(alloc, symbols)?;
+    Ok(Value::Set(SymSet::from_symbols(alloc, copies)?))
+}
+
+/// The value in the table that the first argument names, at the keys that follow.
+fn found<'a>(
+    alloc: Global,
+    args: &[Value],
+    catalog: &'a Catalog,
+) -> Result<Option<&'a Value>, Memory>
+    ensures { IfOk result (λ v. option_copied v ≡ spec.found catalog.now args.now) }
 {
     match args.split_first() {
         Some((table, keys)) => {
             let table = symbol_in(alloc, table)?;
             let keys = symbols_in(alloc, keys)?;
-            found(alloc, kind, catalog.lookup(&table, keys.as_slice()))
+            Ok(catalog.lookup(&table, keys.as_slice()))
         }
-        None => Value::default_of(alloc, kind),
+        None => Ok(None),
     }
 }
 
-/// The value that was found, or the kind's default where there is none of that kind.
-fn found(alloc: Global, kind: Kind, value: Option<&Value>) -> Result<Value, Memory>
-    requires { ForSome value (λ v. is_capped v.now ≡ true) }
-    ensures value { IfOk result (λ v. v ≡ found_of kind (option_copied value.entry)) }
-    ensures capped { IfOk result (λ v. is_capped v ≡ true) }
+fn num_found(value: Option<&Value>) -> Value
+    ensures { result ≡ spec.num_found (option_copied value.entry) }
 {
     match value {
-        Some(value) => of_kind(alloc, kind, value),
-        None => Value::default_of(alloc, kind),
+        Some(Value::Num(n)) => Value::Num((*n).min(CAP)),
+        _ => Value::Num(0),
     }
 }
 
-fn of_kind(alloc: Global, kind: Kind, value: &Value) -> Result<Value, Memory>
-    requires { is_capped value.now ≡ true }
-    ensures value { IfOk result (λ v. v ≡ found_of kind (Some value.now)) }
-    ensures capped { IfOk result (λ v. is_capped v ≡ true) }
+fn truth_found(value: Option<&Value>) -> Value
+    ensures { result ≡ spec.truth_found (option_copied value.entry) }
 {
-    if value.has_kind(kind) {
-        value.copy(alloc)
-    } else {
-        Value::default_of(alloc, kind)
+    match value {
+        Some(Value::Truth(b)) => Value::Truth(*b),
+        _ => Value::Truth(false),
+    }
+}
+
+fn symbol_found(alloc: Global, value: Option<&Value>) -> Result<Value, Memory>
+    ensures { IfOk result (λ v. v ≡ spec.symbol_found (option_copied value.entry)) }
+{
+    match value {
+        Some(Value::Sym(s)) => Ok(Value::Sym(s.copy(alloc)?)),
+        _ => Ok(Value::Sym(Symbol::dash(alloc)?)),
+    }
+}
+
+fn set_found(alloc: Global, value: Option<&Value>) -> Result<Value, Memory>
+    ensures { IfOk result (λ v. v ≡ spec.set_found (option_copied value.entry)) }
+{
+    match value {
+        Some(Value::Set(s)) => Ok(Value::Set(s.copy(alloc)?)),
+        _ => Ok(Value::Set(SymSet::new(alloc))),
+    }
+}
+
+fn list_found(alloc: Global, value: Option<&Value>) -> Result<Value, Memory>
+    ensures { IfOk result (λ v. v ≡ spec.list_found (option_copied value.entry)) }
+{
+    match value {
+        Some(Value::List(l)) => Ok(Value::List(l.copy(alloc)?)),
+        _ => Ok(Value::List(SymList::new(alloc))),
     }
 }

@@ -4,8 +4,7 @@ ghost use Rattle.pr_value.specs.SymbolSets.{set_of};
 ghost use Rattle.pr_value.specs.declared.value.Value.TheVariants as value;
 ghost use Rattle.action_eval.specs.Builtins as builtins;
 
-use crate::parts::symbol_in;
-use pr_value::{Memory, SymList, SymSet, Symbol, Value};
+use pr_value::{Memory, SymList, SymSet, Symbol, Value, symbol_in};
 use std::alloc::Global;
 
 /// The symbols of values.
@@ -17,17 +16,6 @@ pub fn symbols_in(alloc: Global, values: &[Value]) -> Result<Vec<Symbol>, Memory
         symbols.push(symbol_in(alloc, value)?)?;
     }
     Ok(symbols)
-}
-
-/// A copy of the symbols as a vector.
-pub fn copy_of(alloc: Global, symbols: &[Symbol]) -> Result<Vec<Symbol>, Memory>
-    ensures { IfOk result (λ ss. ss.items ≡ symbols.now) }
-{
-    let mut copies = Vec::with_capacity(alloc, symbols.len())?;
-    for symbol in symbols {
-        copies.push(symbol.copy(alloc)?)?;
-    }
-    Ok(copies)
 }
 
 /// The list of these symbols, in their order.

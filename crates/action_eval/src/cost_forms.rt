@@ -3,13 +3,9 @@ mod form;
 mod laws;
 mod making;
 mod places;
-mod reads;
 mod step;
 
 pub use form::CostForm;
 pub use laws::cost_laws;
 pub use making::cost_form;
 pub use step::IStep;
-
-#[cfg(test)]
-mod tests;

@@ -1,9 +1,8 @@
-ghost use Rattle.std.specs.Prelude.{◌≡◌, true, false, Some, None, [], map, IfSome, IfNone, OnOk, OnErr};
-ghost use Rattle.std.specs.List.{list_all};
+ghost use Rattle.std.specs.Prelude.{◌≡◌, true, false, [], map, slice_set, IfSome, IfNone, OnOk, OnErr};
 ghost use Rattle.pr_value.specs.SymbolSets.{contains};
 ghost use Rattle.action_eval.specs.Environments.{bound_desc};
 ghost use Rattle.action_eval.specs.Meaning.{desc_in, with_desc_in};
-ghost use Rattle.descriptor_types.specs.Descriptors.{fits, with_value};
+ghost use Rattle.descriptor_types.specs.Descriptors.{with_value};
 ghost use Rattle.action_eval.specs.Names.{desc_place};
 ghost use Rattle.action_eval.specs.SeenEnv.{seen_env};
 ghost use Rattle.rule_syntax.specs.SeenRules.{seen_rules};
@@ -78,7 +77,6 @@ impl<'a> Env<'a> {
 
     /// A property of a descriptor becomes the value.
     pub(crate) fn set_property(&mut self, desc: &Symbol, property: &Symbol, value: Value)
-        requires { list_all (λ d. fits (seen_env self.old).layout d.1) (seen_env self.old).descs ≡ true }
         ensures { seen_env self.new ≡ record (seen_env self.old) {
           descs = with_desc_in (seen_env self.old).descs desc.now (with_value (seen_env self.old).layout property.now value (desc_in (seen_env self.old).descs desc.now));
         } }
@@ -89,7 +87,7 @@ impl<'a> Env<'a> {
         let Some(place) = self.layout.find(property) else {
             return;
         };
-        self.descs[desc].1.set(place, value);
+        set_at(&mut self.descs[desc].1, place, value);
     }
 
     /// A descriptor becomes another, which is there. The environment is unchanged after an error.
@@ -119,6 +117,16 @@ impl<'a> Env<'a> {
             self.descs[place].1 = d;
         }
     }
+}
+
+/// Sets the value at a place, if there is one.
+fn set_at(desc: &mut Desc, place: usize, value: Value)
+    ensures { desc.new ≡ slice_set desc.old place value }
+{
+    if place >= desc.count() {
+        return;
+    }
+    desc.set(place, value);
 }
 
 /// The place of the descriptor of that name.

@@ -1,34 +1,26 @@
 // Expressions, in an environment and under the variables that are bound there.
-ghost use Rattle.std.specs.Prelude.{◌≡◌, true, map, is_some, IfOk};
-ghost use Rattle.std.specs.List.{list_all};
-ghost use Rattle.pr_value.specs.Values.{is_capped};
+ghost use Rattle.std.specs.Prelude.{◌≡◌, map, IfOk};
 ghost use Rattle.rule_syntax.specs.Seen.{seen_expr, seen_helper, exprs_of};
-ghost use Rattle.rule_syntax.specs.Typing.{call_type, helper_result, signatures_of};
 ghost use Rattle.action_eval.specs.Meaning.{functions, with_helpers, no_calls};
-ghost use Rattle.action_eval.specs.Names.{IsReady, kind_of, value_at, values_at, value_within, type_at, types_at, type_within};
+ghost use Rattle.action_eval.specs.Names.{value_at, values_at, value_within};
 ghost use Rattle.action_eval.specs.SeenEnv.{seen_env};
 
 use crate::application::apply;
 use crate::collections::{list_value, set_value};
 use crate::env::Env;
 use crate::folds::folded;
-use crate::function::function_of;
 use crate::helpers::place_of;
 use crate::names::{Names, Vars, variable};
 use crate::operators::binary;
-use crate::parts::members_in;
 use crate::reading::read;
-use pr_value::{Memory, Symbol, Value};
-use rule_syntax::Expr;
+use pr_value::{Memory, Symbol, Value, members_in};
+use rule_syntax::{Expr, builtin_of};
 use std::alloc::Global;
 
 /// The value of an expression.
 #[cycle(eval)]
 pub fn eval_in(alloc: Global, e: &Expr, names: &Names) -> Result<Value, Memory>
-    requires ready { IsReady names.now }
-    requires typed { is_some (type_at names.now (seen_expr e.now)) ≡ true }
-    ensures value { IfOk result (λ v. v ≡ value_at names.now (seen_expr e.now)) }
-    ensures capped { IfOk result (λ v. is_capped v ≡ true) }
+    ensures { IfOk result (λ v. v ≡ value_at names.now (seen_expr e.now)) }
 {
     match e {
         Expr::Number(number) => Ok(Value::Num(*number)),
@@ -69,10 +61,7 @@ pub fn eval_in(alloc: Global, e: &Expr, names: &Names) -> Result<Value, Memory>
 /// The values of expressions, in their order.
 #[cycle(eval)]
 fn eval_all(alloc: Global, es: &[Expr], names: &Names) -> Result<Vec<Value>, Memory>
-    requires ready { IsReady names.now }
-    requires typed { is_some (types_at names.now (exprs_of (map seen_expr es.now))) ≡ true }
-    ensures value { IfOk result (λ vs. vs.items ≡ values_at names.now (exprs_of (map seen_expr es.now))) }
-    ensures capped { IfOk result (λ vs. list_all is_capped vs.items ≡ true) }
+    ensures { IfOk result (λ vs. vs.items ≡ values_at names.now (exprs_of (map seen_expr es.now))) }
 {
     let mut values = Vec::with_capacity(alloc, es.len())?;
     for e in es {
@@ -90,10 +79,7 @@ fn eval_each(
     body: &Expr,
     names: &Names,
 ) -> Result<Vec<Value>, Memory>
-    requires ready { IsReady names.now }
-    requires typed { is_some (type_within names.now name.now (seen_expr body.now)) ≡ true }
-    ensures value { IfOk result (λ vs. vs.items ≡ map (λ s. value_within names.now name.now s (seen_expr body.now)) members.now) }
-    ensures capped { IfOk result (λ vs. list_all is_capped vs.items ≡ true) }
+    ensures { IfOk result (λ vs. vs.items ≡ map (λ s. value_within names.now name.now s (seen_expr body.now)) members.now) }
 {
     let mut values = Vec::with_capacity(alloc, members.len())?;
     for member in members {
@@ -111,10 +97,7 @@ fn eval_at(
     body: &Expr,
     names: &Names,
 ) -> Result<Value, Memory>
-    requires ready { IsReady names.now }
-    requires typed { is_some (type_within names.now name.now (seen_expr body.now)) ≡ true }
-    ensures value { IfOk result (λ v. v ≡ value_within names.now name.now member.now (seen_expr body.now)) }
-    ensures capped { IfOk result (λ v. is_capped v ≡ true) }
+    ensures { IfOk result (λ v. v ≡ value_within names.now name.now member.now (seen_expr body.now)) }
 {
     let member = Value::Sym(member.copy(alloc)?);
     let vars = Vars::Member {
@@ -135,13 +118,9 @@ fn eval_at(
 /// What a built-in function or a helper gives of these arguments.
 #[cycle(eval)]
 fn call(alloc: Global, name: &Symbol, args: &[Value], names: &Names) -> Result<Value, Memory>
-    requires ready { IsReady names.now }
-    requires typed { is_some (call_type (signatures_of (map seen_helper names.now.helpers.now)) name.now (map kind_of args.now)) ≡ true }
-    requires capped { list_all is_capped args.now ≡ true }
-    ensures value { IfOk result (λ v. v ≡ functions (seen_env names.now.env.now).layout (map seen_helper names.now.helpers.now) names.now.catalog.now name.now args.now) }
-    ensures capped { IfOk result (λ v. is_capped v ≡ true) }
+    ensures { IfOk result (λ v. v ≡ functions (seen_env names.now.env.now).layout (map seen_helper names.now.helpers.now) names.now.catalog.now name.now args.now) }
 {
-    match function_of(name) {
+    match builtin_of(name.as_slice()) {
         Some(function) => apply(alloc, function, args, names.catalog),
         None => call_helper(alloc, name, args, names),
     }
@@ -150,11 +129,7 @@ fn call(alloc: Global, name: &Symbol, args: &[Value], names: &Names) -> Result<V
 /// What the latest helper of that name gives of these arguments.
 #[cycle(eval)]
 fn call_helper(alloc: Global, name: &Symbol, args: &[Value], names: &Names) -> Result<Value, Memory>
-    requires ready { IsReady names.now }
-    requires typed { is_some (helper_result (signatures_of (map seen_helper names.now.helpers.now)) name.now (map kind_of args.now)) ≡ true }
-    requires capped { list_all is_capped args.now ≡ true }
-    ensures value { IfOk result (λ v. v ≡ with_helpers (seen_env names.now.env.now).layout names.now.catalog.now no_calls (map seen_helper names.now.helpers.now) name.now args.now) }
-    ensures capped { IfOk result (λ v. is_capped v ≡ true) }
+    ensures { IfOk result (λ v. v ≡ with_helpers (seen_env names.now.env.now).layout names.now.catalog.now no_calls (map seen_helper names.now.helpers.now) name.now args.now) }
 {
     match place_of(names.helpers, name) {
         Some(place) => {

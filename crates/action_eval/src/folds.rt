@@ -1,14 +1,13 @@
 // What a fold makes of the values that its body has at the members.
-ghost use Rattle.std.specs.Prelude.{◌≡◌, ◌≤◌, true, IfOk};
+ghost use Rattle.std.specs.Prelude.{◌≡◌, IfOk};
 ghost use Rattle.std.specs.List.{list_all, list_any};
-ghost use Rattle.pr_value.specs.Capped.{cap};
-ghost use Rattle.pr_value.specs.Values.{is_capped, members_in, truth_in};
+ghost use Rattle.pr_value.specs.Values.{members_in, truth_in};
 ghost use Rattle.action_eval.specs.Builtins.{collection};
 ghost use Rattle.action_eval.specs.Folds.{total_of, product_of, kept_of, fold_of};
 
+use crate::arguments::truth_at;
 use crate::collections::list_of;
-use crate::parts::{number_in, truth_at, truth_in};
-use pr_value::{Memory, SymSet, Symbol, Value, cap_add, cap_mul};
+use pr_value::{Memory, SymSet, Symbol, Value, cap_add, cap_mul, number_in, truth_in};
 use rule_syntax::FoldKind;
 use std::alloc::Global;
 
@@ -19,9 +18,7 @@ pub fn folded(
     over: &Value,
     values: &[Value],
 ) -> Result<Value, Memory>
-    requires capped { list_all is_capped values.now ≡ true }
-    ensures value { IfOk result (λ v. v ≡ fold_of fold over.now values.now) }
-    ensures capped { IfOk result (λ v. is_capped v ≡ true) }
+    ensures { IfOk result (λ v. v ≡ fold_of fold over.now values.now) }
 {
     match fold {
         FoldKind::Sum => Ok(Value::Num(total(values))),
@@ -33,9 +30,7 @@ pub fn folded(
 }
 
 fn total(values: &[Value]) -> u64
-    requires capped { list_all is_capped values.now ≡ true }
-    ensures value { result ≡ total_of values.now 0 }
-    ensures within { result ≤ cap }
+    ensures { result ≡ total_of values.now 0 }
 {
     let mut sum = 0;
     let mut rest = values;
@@ -47,9 +42,7 @@ fn total(values: &[Value]) -> u64
 }
 
 fn product(values: &[Value]) -> u64
-    requires capped { list_all is_capped values.now ≡ true }
-    ensures value { result ≡ product_of values.now 1 }
-    ensures within { result ≤ cap }
+    ensures { result ≡ product_of values.now 1 }
 {
     let mut product = 1;
     let mut rest = values;
@@ -74,8 +67,7 @@ fn all_true(values: &[Value]) -> bool
 
 /// The set or the list of the members beside which a truth holds.
 fn keep(alloc: Global, over: &Value, values: &[Value]) -> Result<Value, Memory>
-    ensures value { IfOk result (λ v. v ≡ collection over.now (kept_of (members_in over.now) values.now)) }
-    ensures capped { IfOk result (λ v. is_capped v ≡ true) }
+    ensures { IfOk result (λ v. v ≡ collection over.now (kept_of (members_in over.now) values.now)) }
 {
     match over {
         Value::List(list) => {

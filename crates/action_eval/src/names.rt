@@ -2,8 +2,8 @@ ghost use Rattle.std.specs.Prelude.{◌≡◌, [], IfOk};
 ghost use Rattle.action_eval.specs.Meaning.{bound, value_in};
 ghost use Rattle.action_eval.specs.Names.{seen_vars};
 
+use crate::arguments::copy_at;
 use crate::env::Env;
-use crate::parts::copy_at;
 use catalog::Catalog;
 use pr_value::{Memory, Symbol, Value};
 use rule_syntax::{Helper, Param};

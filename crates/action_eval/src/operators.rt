@@ -1,17 +1,12 @@
-ghost use Rattle.std.specs.Prelude.{◌≡◌, ◌&&◌, ◌||◌, true};
-ghost use Rattle.pr_value.specs.Values.{is_capped};
+ghost use Rattle.std.specs.Prelude.{◌≡◌, ◌&&◌, ◌||◌};
 ghost use Rattle.action_eval.specs.Builtins.{binary_value};
 
-use crate::parts::{number_in, truth_in};
-use pr_value::{Value, cap_add, cap_div, cap_mul, cap_sub};
+use pr_value::{Value, cap_add, cap_div, cap_mul, cap_sub, number_in, truth_in};
 use rule_syntax::BinOp;
 
 /// What an operator makes of two values. It takes no memory.
 pub fn binary(op: BinOp, a: &Value, b: &Value) -> Value
-    requires left { is_capped a.now ≡ true }
-    requires right { is_capped b.now ≡ true }
-    ensures value { result ≡ binary_value op a.now b.now }
-    ensures capped { is_capped result ≡ true }
+    ensures { result ≡ binary_value op a.now b.now }
 {
     let m = number_in(a);
     let n = number_in(b);

@@ -1,24 +1,25 @@
 ghost use Rattle.std.specs.Prelude.{◌≡◌, ◌≤◌, ℕ, List, Some, IfOk, length, true, codes};
 ghost use Rattle.std.specs.Str.{bytes_eq};
-ghost use Rattle.pr_value.specs.Values.{number_in, truth_in};
+ghost use Rattle.pr_value.specs.Repeats.{are_distinct};
+ghost use Rattle.pr_value.specs.Values.{truth_in};
 ghost use Rattle.pr_value.specs.declared.kind.Kind.TheVariants as kind;
 ghost use Rattle.rule_syntax.specs.CostForms as costs;
 ghost use Rattle.rule_syntax.specs.CostForms.{is_cost_form, reads_cost_of};
+ghost use Rattle.rule_syntax.specs.Descs.{names_of};
 ghost use Rattle.rule_syntax.specs.Seen.{seen_expr};
 ghost use Rattle.action_eval.specs.Cost.{cost_of, is_over};
 ghost use Rattle.action_eval.specs.Environments.{IsSound, type_in, value_here};
 ghost use Rattle.action_eval.specs.FormOf.{IsCost, IsFormOf};
-ghost use Rattle.action_eval.specs.Forms.{are_distinct, cost_in, form, names_of, number_here, with_costs};
+ghost use Rattle.action_eval.specs.Forms.{cost_in, form, number_here, with_costs};
 ghost use Rattle.action_eval.specs.SeenForms.{seen_form};
 ghost use Rattle.action_eval.specs.SeenEnv.{seen_env};
 
 use crate::cost_forms::form::{CostForm, boxed};
 use crate::cost_forms::places::place_of;
-use crate::cost_forms::reads::{cost_name, reads_cost};
 use crate::{Env, eval};
 use catalog::Catalog;
-use pr_value::{CAP, Memory, Symbol, Value};
-use rule_syntax::{BinOp, Expr, ImplIn};
+use pr_value::{CAP, Memory, Symbol, number_in, truth_in};
+use rule_syntax::{BinOp, Expr, ImplIn, cost_name, reads_cost};
 use std::alloc::Global;
 
 /// The form of a cost expression over the costs of these inputs, by their places. What reads no cost
@@ -118,25 +119,8 @@ fn number_at(alloc: Global, e: &Expr, env: &Env, catalog: &Catalog) -> Result<u6
 
 /// The truth that the expression comes to.
 fn truth_at(alloc: Global, e: &Expr, env: &Env, catalog: &Catalog) -> Result<bool, Memory>
-    requires sound { IsSound (seen_env env.now) }
-    requires typed { type_in (seen_env env.now) (seen_expr e.now) ≡ Some kind.Truth }
     ensures { IfOk result (λ b. b ≡ truth_in (value_here (seen_env env.now) catalog.now (seen_expr e.now))) }
 {
     let value = eval(alloc, e, env, catalog)?;
     Ok(truth_in(&value))
-}
-
-fn number_in(value: &Value) -> u64
-    ensures { result ≡ number_in value.now }
-{
-    match value {
-        Value::Num(number) => *number,
-        _ => 0,
-    }
-}
-
-fn truth_in(value: &Value) -> bool
-    ensures { result ≡ truth_in value.now }
-{
-    matches!(value, Value::Truth(true))
 }

@@ -1,5 +1,6 @@
 ghost use Rattle.std.specs.Prelude.{◌≡◌};
-ghost use Rattle.action_eval.specs.Forms.{names_of, place};
+ghost use Rattle.rule_syntax.specs.Descs.{names_of};
+ghost use Rattle.action_eval.specs.Forms.{place};
 
 use pr_value::Symbol;
 use rule_syntax::ImplIn;

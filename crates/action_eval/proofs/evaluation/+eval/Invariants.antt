@@ -1,6 +1,4 @@
-use Rattle.std.proofs.Common.{◌≡◌, true, map, take, ◌+◌, ◌*◌}
-use Rattle.std.specs.List.{list_all}
-use Rattle.pr_value.specs.Values.{is_capped}
+use Rattle.std.proofs.Common.{◌≡◌, map, take, ◌+◌, ◌*◌}
 use Rattle.rule_syntax.specs.Seen.{seen_expr, exprs_of}
 use Rattle.action_eval.specs.Names.{values_at, value_within}
 use Rattle.action_eval.proofs.Sizes.{size, sizes, weight_of}
@@ -25,13 +23,7 @@ abbrev pub decreases-eval_each : goal.decreases-eval_each
 decreases-eval_each l = 4 * size (seen_expr l.body.now) + weight_of l.names.now + 6
 
 abbrev pub invariant-eval_all-loop-e : goal.invariant-eval_all-loop-e
-invariant-eval_all-loop-e l = record {
-  value : l.values.items ≡ values_at l.names (exprs_of (map seen_expr (take l.e-index l.es)));
-  capped : list_all is_capped l.values.items ≡ true;
-}
+invariant-eval_all-loop-e l = l.values.items ≡ values_at l.names (exprs_of (map seen_expr (take l.e-index l.es)))
 
 abbrev pub invariant-eval_each-loop-member : goal.invariant-eval_each-loop-member
-invariant-eval_each-loop-member l = record {
-  value : l.values.items ≡ map (λ s. value_within l.names l.name s (seen_expr l.body)) (take l.member-index l.members);
-  capped : list_all is_capped l.values.items ≡ true;
-}
+invariant-eval_each-loop-member l = l.values.items ≡ map (λ s. value_within l.names l.name s (seen_expr l.body)) (take l.member-index l.members)

@@ -1,17 +1,10 @@
-use Rattle.std.proofs.Common.{◌≡◌, ◌≤◌, true, length}
-use Rattle.std.specs.List.{list_all}
-use Rattle.pr_value.specs.Capped.{cap}
-use Rattle.pr_value.specs.Values.{is_capped}
+use Rattle.std.proofs.Common.{◌≡◌, length}
 use Rattle.action_eval.specs.Folds.{product_of}
 use Rattle.action_eval.proofs.folds.product.Given as goal
 
 -- the product so far is that of what stands behind
 abbrev pub invariant-loop-value : goal.invariant-loop-value
-invariant-loop-value l = record {
-  product : product_of l.rest l.product ≡ product_of l.initial.rest l.initial.product;
-  within : l.product ≤ cap;
-  capped : list_all is_capped l.rest ≡ true;
-}
+invariant-loop-value l = product_of l.rest l.product ≡ product_of l.initial.rest l.initial.product
 
 abbrev pub decreases-loop-value : goal.decreases-loop-value
 decreases-loop-value l = length l.rest

@@ -13,7 +13,7 @@ returns-in_ok-value-in-Set-clause-sound c =
     let env = seen_env c.args.env.now in
     subst (λ (e : Env). IsSound e) (sym c.set_property.ensures)
     (sound-set env c.in-Set.desc c.in-Set.property (seen_expr c.in-Set.value) c.in_ok-value-in-Set.value c.requires.sound
-    (subst (λ (s : Stmt). are_typed_here env (seen_stmt s ∷ []) ≡ true) c.in-Set.is c.requires.typed) c.in_ok-value-in-Set.ensures.kind)
+    (subst (λ (s : Stmt). are_typed_here env (seen_stmt s ∷ []) ≡ true) c.in-Set.is c.requires.typed) (λ t typed. c.in_ok-value-in-Set.ensures.kind t c.requires.sound typed))
 
 pub returns-in_ok-value-in-Set-clause-context : goal.returns-in_ok-value-in-Set-clause-context
 returns-in_ok-value-in-Set-clause-context c =

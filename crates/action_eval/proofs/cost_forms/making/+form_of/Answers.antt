@@ -79,12 +79,6 @@ returns-else-is_max t c =
     lesser_made (sym c.reads.ensures ∙ c.if-not-reads.false) is
     (sym c.is_max.ensures ∙ c.if-is_max.false) c.requires c.in_ok-a-in-len2.ensures c.in_ok-b-in-len2.ensures c.in_ok-form_of-in-len2.ensures c.in_ok-form_of-in-len2-2.ensures
 
-pub truth_at-requires-clause-typed : goal.truth_at-requires-clause-typed
-truth_at-requires-clause-typed t c =
-    let is = three_seen c.in-Call.is c.as_slice.ensures c.in-len3.len_at_least c.in-len3.len_below
-    c.test-item.is c.a-item-then-this-lt4.is c.b-item-then-this-lt4.is in
-    (three_asked c.requires (sym c.reads.ensures ∙ c.if-not-reads.false) is).1
-
 pub form_of-requires-then-branch : goal.form_of-requires-then-branch
 form_of-requires-then-branch t c =
     let is = three_seen c.in-Call.is c.as_slice.ensures c.in-len3.len_at_least c.in-len3.len_below

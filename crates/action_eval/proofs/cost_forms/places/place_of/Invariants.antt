@@ -1,5 +1,6 @@
 use Rattle.std.proofs.Common.{◌≡◌, ◌+◌, drop}
-use Rattle.action_eval.specs.Forms.{names_of, place}
+use Rattle.rule_syntax.specs.Descs.{names_of}
+use Rattle.action_eval.specs.Forms.{place}
 use Rattle.action_eval.proofs.cost_forms.places.place_of.Given as goal
 
 abbrev pub invariant-loop-place : goal.invariant-loop-place

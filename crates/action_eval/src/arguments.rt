@@ -1,66 +1,16 @@
-ghost use Rattle.std.specs.Prelude.{◌≡◌, [], codes, true, IfOk};
+// The arguments of a built-in function, by their places from 0.
+ghost use Rattle.std.specs.Prelude.{◌≡◌, [], IfOk};
 ghost use Rattle.pr_value.specs.Values as values;
+ghost use Rattle.action_eval.specs.Builtins as spec;
 ghost use Rattle.action_eval.specs.Builtins.{at};
-ghost use Rattle.action_eval.specs.Functions.{set_in};
 
-use pr_value::{Memory, SymSet, Symbol, Value};
+use pr_value::{Memory, SymSet, Symbol, Value, members_in, number_in, symbol_in, truth_in};
 use std::alloc::Global;
 
-/// The number of a value that is one; else 0.
-pub fn number_in(v: &Value) -> u64
-    ensures { result ≡ values.number_in v.now }
-{
-    match v {
-        Value::Num(n) => *n,
-        _ => 0,
-    }
-}
-
-/// The truth of a value that is one; else false.
-pub fn truth_in(v: &Value) -> bool
-    ensures { result ≡ values.truth_in v.now }
-{
-    match v {
-        Value::Truth(b) => *b,
-        _ => false,
-    }
-}
-
-/// The symbol of a value that is one; else `-`.
-pub fn symbol_in(alloc: Global, v: &Value) -> Result<Symbol, Memory>
-    ensures { IfOk result (λ s. s ≡ values.symbol_in v.now) }
-{
-    match v {
-        Value::Sym(s) => s.copy(alloc),
-        _ => dash(alloc),
-    }
-}
-
-/// The symbol `-`.
-pub fn dash(alloc: Global) -> Result<Symbol, Memory>
-    ensures { IfOk result (λ s. s ≡ codes "-") }
-{
-    match Symbol::new(alloc, b"-") {
-        Ok(symbol) => Ok(symbol),
-        Err(_) => Err(Memory),
-    }
-}
-
-/// The members of a value that is a set or a list; else none.
-pub fn members_in(v: &Value) -> &[Symbol]
-    ensures { result.now ≡ values.members_in v.now }
-{
-    match v {
-        Value::Set(s) => s.as_slice(),
-        Value::List(l) => l.as_slice(),
-        _ => &[],
-    }
-}
-
 /// The set of a value that is one; else `none`, which is the empty set.
-pub fn set_in<'a>(v: &'a Value, none: &'a SymSet) -> &'a SymSet
+fn set_in<'a>(v: &'a Value, none: &'a SymSet) -> &'a SymSet
     requires { none.now ≡ [] }
-    ensures { result.now ≡ set_in v.now }
+    ensures { result.now ≡ spec.set_in v.now }
 {
     match v {
         Value::Set(s) => s,
@@ -91,7 +41,7 @@ pub fn symbol_at(alloc: Global, args: &[Value], i: usize) -> Result<Symbol, Memo
 {
     match args.get(i) {
         Some(v) => symbol_in(alloc, v),
-        None => dash(alloc),
+        None => Symbol::dash(alloc),
     }
 }
 
@@ -106,7 +56,7 @@ pub fn members_at(args: &[Value], i: usize) -> &[Symbol]
 
 pub fn set_at<'a>(args: &'a [Value], i: usize, none: &'a SymSet) -> &'a SymSet
     requires { none.now ≡ [] }
-    ensures { result.now ≡ set_in (at args.now i) }
+    ensures { result.now ≡ spec.set_in (at args.now i) }
 {
     match args.get(i) {
         Some(v) => set_in(v, none),
