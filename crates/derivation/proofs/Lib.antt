@@ -1,0 +1,14 @@
+pub mod JoinedLaws
+pub mod AlikeLaws
+pub mod FixedLaws
+pub mod LinesLaws
+pub mod MapLaws
+pub mod NoSteps
+pub mod CountLaws
+pub mod JustifiedLaws
+pub mod TableLaws
+pub mod StandsLaws
+pub mod LogLaws
+pub mod CodeLaws
+pub mod SaysLaws
+pub mod SliceLaws
