@@ -1,14 +1,9 @@
-ghost use Rattle.std.specs.Prelude.{◌≡◌, None, false, ◌≤◌, IfOk, vec_len};
+ghost use Rattle.std.specs.Prelude.{◌≡◌, None, false, []};
 
-use pr_outside::{Bytes, FetchError, Name, Shelf};
-use pr_value::Memory;
+use pr_outside::{Bytes, FetchError, Name, ReadError, Shelf, read_up_to};
 use std::alloc::Global;
 use std::fs;
-use std::io::{ErrorKind, Read};
 use std::rt::Files;
-
-/// How many bytes one read asks for at most.
-const PIECE: usize = 8192;
 
 /// The files of the system. It tells nothing of their content.
 #[derive(Drop)]
@@ -57,50 +52,15 @@ impl<'a, R: Files> Shelf for FileShelf<'a, R> {
     }
 }
 
-#[derive(Clone, Copy)]
-enum ReadError {
-    Failed,
-    Memory,
-}
-
-impl From<Memory> for ReadError {
-    ghost use Rattle.prairie_cli.specs.declared.file_shelf.ReadError.TheVariants as errors;
-
-    ghost from_gives = { λ _ e. e ≡ errors.Memory };
-
-    fn from(_error: Memory) -> ReadError {
-        ReadError::Memory
-    }
-}
-
-impl From<std::io::Error> for ReadError {
-    fn from(error: std::io::Error) -> ReadError {
-        if error.kind() == ErrorKind::OutOfMemory {
-            ReadError::Memory
-        } else {
-            ReadError::Failed
-        }
-    }
-}
-
-/// Appends the bytes of a file, at most one more than `most`.
+/// Takes the bytes of a file, at most one more than `most`.
 fn read_file<R: Files>(
     rt: &R,
     name: &Name,
     most: usize,
     bytes: &mut Vec<u8>,
-) -> Result<(), ReadError> {
+) -> Result<(), ReadError>
+    requires { bytes.old.items ≡ [] }
+{
     let mut file = fs::open(rt, name.as_str())?;
-    let mut piece = [0u8; PIECE];
-    while bytes.len() <= most {
-        let wanted = (most - bytes.len()).min(PIECE - 1) + 1;
-        let read = file.read(&mut piece[..wanted])?;
-        if read == 0 {
-            return Ok(());
-        }
-        if bytes.extend_from_slice(&piece[..read]).is_err() {
-            return Err(ReadError::Memory);
-        }
-    }
-    Ok(())
+    read_up_to(&mut file, most, bytes)
 }

@@ -5,10 +5,21 @@ mod file_shelf;
 mod out_sink;
 mod words;
 
+ghost use Rattle.std.specs.Prelude.{◌≡◌};
+ghost use Rattle.std.specs.Process.{exit_status};
+ghost use Rattle.prairie_top.specs.Statuses.{number};
+
 use file_shelf::FileShelf;
 use out_sink::OutSink;
 use prairie_top::{Status, run};
 use std::process::ExitCode;
+
+/// The exit status of an answer.
+fn exit_code(status: Status) -> ExitCode
+    ensures { exit_status result ≡ number status }
+{
+    ExitCode::from(status.number())
+}
 
 fn main(rt: HostRuntime) -> ExitCode {
     let alloc = rt.alloc();
@@ -20,8 +31,5 @@ fn main(rt: HostRuntime) -> ExitCode {
         }
         Err(_) => Status::Memory,
     };
-    ExitCode::from(status as u8)
+    exit_code(status)
 }
-
-#[cfg(test)]
-mod tests;

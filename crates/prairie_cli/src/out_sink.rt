@@ -1,9 +1,8 @@
 ghost use Rattle.std.specs.Prelude.{◌≡◌, None};
 
-use pr_outside::{PutError, Sink};
+use pr_outside::{PutError, Sink, write_whole};
 use std::alloc::Global;
 use std::io;
-use std::io::Write;
 
 /// Standard output. It tells nothing of what was written.
 #[derive(Drop)]
@@ -28,7 +27,7 @@ impl<'a, R: Print> Sink for OutSink<'a, R> {
 
     fn put(&mut self, _alloc: Global, piece: &[u8]) -> Result<(), PutError> {
         let faults = self.faults;
-        match write_whole(self.rt, piece) {
+        match write_whole(&mut io::writer(self.rt), piece) {
             Ok(()) => Ok(()),
             Err(_) => {
                 self.faults = faults.saturating_add(1);
@@ -36,18 +35,4 @@ impl<'a, R: Print> Sink for OutSink<'a, R> {
             }
         }
     }
-}
-
-/// Writes all bytes. A write that takes none of them is a failure.
-fn write_whole<R: Print>(rt: &R, bytes: &[u8]) -> io::Result<()> {
-    let mut out = io::writer(rt);
-    let mut rest = bytes;
-    while !rest.is_empty() {
-        let taken = out.write(rest)?;
-        if taken == 0 {
-            return Err(io::Error::from(io::ErrorKind::WriteZero));
-        }
-        rest = &rest[taken..];
-    }
-    Ok(())
 }

@@ -1,8 +1,8 @@
 -- The causes of answers exclude each other.
 use Rattle.std.proofs.Common.{◌≡◌, ℕ, ◌<◌, ◌≤◌, true, false, List, [], ◌∷◌, length, map, Option, Some, None, refl, ap, sym, ◌∙◌, subst, arith, inl, inr}
-use Rattle.std.specs.Prelude.{◌⊎◌, codes}
+use Rattle.std.specs.Prelude.{◌⊎◌, ◌≢◌, codes}
 use Rattle.pr_outside.specs.Counts.{last_count, Still}
-use Rattle.pr_outside.specs.Files.{Files, held_under, MayFail}
+use Rattle.pr_outside.specs.Files.{Files}
 use Rattle.pr_value.specs.declared.token.Token.{Token}
 use Rattle.serde_json.specs.Data.{Data}
 use Rattle.serde_json.specs.Find.{get}
@@ -18,12 +18,15 @@ use Rattle.prairie_top.specs.declared.stage.Refusal.{Refusal}
 use Rattle.prairie_top.specs.declared.stage.Refusal.TheVariants.{TooLong, BadByte, NumberTooBig, NameTooLong, BadSyntax, TooDeep, NotJson, BadShape, Unbuilt}
 use Rattle.prairie_top.specs.declared.status.Status.{Status}
 use Rattle.prairie_top.specs.declared.status.Status.TheVariants as status
-use Rattle.prairie_top.specs.Plans.{Plan, Best, NoPlan}
-use Rattle.prairie_top.specs.PlanText.{plan_text}
-use Rattle.prairie_top.specs.Reading.{HasTokens, SpellsRules, PlannedRules, ReadsRules, ReadsCatalog, SpellsQuery, PlannedQuery, ReadsQuery}
-use Rattle.prairie_top.specs.Run.{Fetches, Puts, Names, ArePlanWords, Told}
-use Rattle.prairie_top.specs.Outcome.{Within, IsRefused, IsRulesRefused, IsCatalogRefused, IsQueryRefused, text_limit, catalog_limit, HoldsRules, HoldsCatalog, HoldsQuery, AreRead, RefusedComes, rules_refused, catalog_refused, query_refused, ReadFaultComes, rules_failed, catalog_failed, query_failed, PlanComes, Comes, PutsAll, PutsOnce}
-use Rattle.prairie_top.specs.Laws.{OneAnswer, EndsPlanned, Complete, IsHeld, NeverFails}
+use Rattle.prairie_top.specs.Plans.{Best, NoPlan}
+use Rattle.prairie_top.specs.Messages.{no_plan_text, usage_text, memory_text}
+use Rattle.prairie_top.specs.Reading.{HasTokens, HasNoTokens, Grammar, Reads, IsRefusedText, no_tokens, unread, refused, rules_grammar, query_grammar, ReadsCatalog, IsRefusedCatalog}
+use Rattle.prairie_top.specs.Run.{Fetches, Puts, Names, Command, plan, Means, ArePlanWords}
+use Rattle.prairie_top.specs.Sources.{AllFetched, IsRead, Chain}
+use Rattle.prairie_top.specs.Sources as sources
+use Rattle.prairie_top.specs.Outcome.{Outcome, planned, unplanned, IsOutcome, outcome_status, outcome_text, rules_source, catalog_source, query_source, Decides, CatalogComes, RulesComes, PlanComes, CommandComes, Comes, unknown, wanting, known, PutsAll, PutsOnce, Ends}
+use Rattle.prairie_top.specs.Laws.{OneAnswer, OneText, HasOneText, EndsPlanned, Complete, IsHeld, NeverFails, NeverUnwritten}
+use Rattle.prairie_top.proofs.ChainLaws.{some_is, Settles, One, IsClear, chain_settles, chain_one, chain_complete, chain_sure, chain_text}
 
 -- what the layers below say of texts
 pub record Laws : Type 0 where
@@ -32,60 +35,142 @@ pub record Laws : Type 0 where
   pub rules : DistinctRules
   pub queries : DistinctQueries
 
-some_is : {A : Type 0} (x y : A) → Some x ≡ Some y → x ≡ y
-some_is x y e = cc
-
 -- ---- texts read in one way
 
 one_text : OneList → (bytes : List ℕ) (ts us : Text) → HasTokens bytes ts → HasTokens bytes us → ts ≡ us
 one_text lists bytes ts us (p, lexes, is) (p', lexes', is') = sym is ∙ (ap (map (λ (x : Token × ℕ). x.0)) (lists bytes p p' lexes lexes') ∙ is')
 
-one_rules : OneList → DistinctRules → (bytes : List ℕ) (r s : Rules) → ReadsRules r bytes → ReadsRules s bytes → r ≡ s
-one_rules lists law bytes r s (ts, has, planned) (us, has', planned') =
-    law r s planned.0.spelled planned'.0.spelled (sym planned.0.tokens ∙ (one_text lists bytes ts us has has' ∙ planned'.0.tokens))
+-- no two values have the same tokens, and none that is accepted is refused
+record IsApart {V : Type 0} (g : Grammar V) : Type 1 where
+  distinct : (v w : V) (ts : Text) → g.Spells v ts → g.Spells w ts → v ≡ w
+  apart : (v : V) (refusal : Refusal) → g.Accepts v → g.Refuses v refusal → ⊥
 
-one_query : OneList → DistinctQueries → (bytes : List ℕ) (r : Rules) (q p : Query) → ReadsQuery r q bytes → ReadsQuery r p bytes → q ≡ p
-one_query lists law bytes r q p (ts, has, planned) (us, has', planned') =
-    law q p planned.0.spelled planned'.0.spelled (sym planned.0.tokens ∙ (one_text lists bytes ts us has has' ∙ planned'.0.tokens))
+true_not_false : (b : _) → b ≡ true → b ≡ false → ⊥
+true_not_false b t f = let clash : true ≡ false = sym t ∙ f in cc clash
 
--- ---- what is told under one name
+rules_apart : Laws → IsApart rules_grammar
+rules_apart laws = record {
+  distinct = λ v w ts a b. laws.rules v w a.spelled b.spelled (sym a.tokens ∙ b.tokens);
+  apart = λ v refusal accepts refuses. true_not_false _ accepts refuses.1;
+}
 
-told_both : (held : Option Files) (files : Files) (name : List ℕ) (P Q : List ℕ → Type 0) → held ≡ Some files → Told held name P → Told held name Q → (bytes : List ℕ) × P bytes × Q bytes
-told_both None files name P Q e p q = absurd (cc e)
-told_both (Some all) files name P Q e (b, at, p) (c, at', q) = (b, p, subst Q (some_is c b (sym at' ∙ at)) q)
+query_apart : Laws → (r : Rules) (c : Catalog) → IsApart (query_grammar r c)
+query_apart laws r c = record {
+  distinct = λ v w ts a b. laws.queries v w a.spelled b.spelled (sym a.tokens ∙ b.tokens);
+  apart = λ v refusal accepts refuses. true_not_false _ accepts refuses.1;
+}
 
--- bytes whose tokens are planned are not refused
-not_refused : OneList → NeverBoth → (limit : ℕ) (Spells Planned : Text → Type 0) (refusal : Refusal) (bytes : List ℕ) (ts : Text) → length bytes ≤ limit → HasTokens bytes ts → Spells ts → Planned ts
-    → IsRefused limit Spells Planned refusal bytes → ⊥
-not_refused lists never limit Spells Planned TooLong bytes ts few has spells planned long = omega (arith, few, long)
-not_refused lists never limit Spells Planned (BadByte at) bytes ts few has spells planned why = never bytes has.0 (lex.BadByte at) has.1 why.1
-not_refused lists never limit Spells Planned (NumberTooBig at) bytes ts few has spells planned why = never bytes has.0 (lex.NumberTooBig at) has.1 why.1
-not_refused lists never limit Spells Planned (NameTooLong at) bytes ts few has spells planned why = never bytes has.0 (lex.NameTooLong at) has.1 why.1
-not_refused lists never limit Spells Planned (BadSyntax at) bytes ts few has spells planned (few', (us, has', none)) = none (subst Spells (one_text lists bytes ts us has has') spells)
-not_refused lists never limit Spells Planned (TooDeep at) bytes ts few has spells planned (few', (us, has', none)) = none (subst Spells (one_text lists bytes ts us has has') spells)
-not_refused lists never limit Spells Planned NotJson bytes ts few has spells planned why = why
-not_refused lists never limit Spells Planned (BadShape part) bytes ts few has spells planned why = why
-not_refused lists never limit Spells Planned Unbuilt bytes ts few has spells planned (few', (us, has', spells', none)) = none (subst Planned (one_text lists bytes ts us has has') planned)
+module _ (laws : Laws) {V : Type 0} (g : Grammar V) (apart : IsApart g) where
+  one_value : (v w : V) (bytes : List ℕ) → Reads g v bytes → Reads g w bytes → v ≡ w
+  one_value v w bytes (ts, has, spells, accepts) (us, has', spells', accepts') = apart.distinct v w us (subst (λ (x : Text). g.Spells v x) (one_text laws.lists bytes ts us has has') spells) spells'
+
+  tokens_not_missing : (refusal : Refusal) (bytes : List ℕ) (ts : Text) → HasTokens bytes ts → HasNoTokens refusal bytes → ⊥
+  tokens_not_missing (BadByte at) bytes ts has why = laws.never bytes has.0 (lex.BadByte at) has.1 why
+  tokens_not_missing (NumberTooBig at) bytes ts has why = laws.never bytes has.0 (lex.NumberTooBig at) has.1 why
+  tokens_not_missing (NameTooLong at) bytes ts has why = laws.never bytes has.0 (lex.NameTooLong at) has.1 why
+  tokens_not_missing TooLong bytes ts has why = why
+  tokens_not_missing (BadSyntax at) bytes ts has why = why
+  tokens_not_missing (TooDeep at) bytes ts has why = why
+  tokens_not_missing NotJson bytes ts has why = why
+  tokens_not_missing (BadShape part) bytes ts has why = why
+  tokens_not_missing Unbuilt bytes ts has why = why
+
+  read_not_refused : (v : V) (refusal : Refusal) (bytes : List ℕ) → Reads g v bytes → IsRefusedText g refusal bytes → ⊥
+  read_not_refused v refusal bytes (ts, has, spells, accepts) (no_tokens why) = tokens_not_missing refusal bytes ts has why
+  read_not_refused v refusal bytes (ts, has, spells, accepts) (unread us syntax has' none) = none v (subst (λ (x : Text). g.Spells v x) (one_text laws.lists bytes ts us has has') spells)
+  read_not_refused v refusal bytes (ts, has, spells, accepts) (refused w us has' spells' refuses) =
+      let same = apart.distinct v w us (subst (λ (x : Text). g.Spells v x) (one_text laws.lists bytes ts us has has') spells) spells' in
+      apart.apart w refusal (subst g.Accepts same accepts) refuses
 
 -- bytes are the text of one JSON value
-one_value : (bytes : List ℕ) (d e : Data) → IsJson bytes d → IsJson bytes e → e ≡ d
-one_value bytes d e is is' = some_is e d (sym is'.1 ∙ is.1)
+one_json : (bytes : List ℕ) (d e : Data) → IsJson bytes d → IsJson bytes e → e ≡ d
+one_json bytes d e is is' = some_is e d (sym is'.1 ∙ is.1)
 
--- a catalog that is planned is not refused
-catalog_not_refused : (c : Catalog) (refusal : Refusal) (bytes : List ℕ) → length bytes ≤ catalog_limit → ReadsCatalog c bytes → IsCatalogRefused refusal bytes → ⊥
-catalog_not_refused c TooLong bytes few is long = omega (arith, few, long)
-catalog_not_refused c NotJson bytes few (d, json, planned, says) (few', none) = none d json
-catalog_not_refused c (BadShape part) bytes few (d, json, planned, says) (few', (e, json', bad)) =
-    let same : first_bad d ≡ Some part = subst (λ (x : Data). first_bad x ≡ Some part) (one_value bytes d e json json') bad in
-    let clash : None ≡ Some part = sym planned.0 ∙ same in
-    absurd (cc clash)
-catalog_not_refused c Unbuilt bytes few (d, json, planned, says) (few', (e, json', whole, files)) =
-    files (subst (λ (x : Data). get (codes "files") x ≡ None) (sym (one_value bytes d e json json')) planned.1)
-catalog_not_refused c (BadByte at) bytes few is why = why
-catalog_not_refused c (NumberTooBig at) bytes few is why = why
-catalog_not_refused c (NameTooLong at) bytes few is why = why
-catalog_not_refused c (BadSyntax at) bytes few is why = why
-catalog_not_refused c (TooDeep at) bytes few is why = why
+catalog_not_refused : (c : Catalog) (refusal : Refusal) (bytes : List ℕ) → ReadsCatalog c bytes → IsRefusedCatalog refusal bytes → ⊥
+catalog_not_refused c NotJson bytes (d, json, whole, free, says) none = none d json
+catalog_not_refused c (BadShape part) bytes (d, json, whole, free, says) (e, json', bad) =
+    let same : first_bad d ≡ Some part = subst (λ (x : Data). first_bad x ≡ Some part) (one_json bytes d e json json') bad in
+    let clash : None ≡ Some part = sym whole ∙ same in
+    cc clash
+catalog_not_refused c Unbuilt bytes (d, json, whole, free, says) (e, json', whole', files) =
+    files (subst (λ (x : Data). get (codes "files") x ≡ None) (sym (one_json bytes d e json json')) free)
+catalog_not_refused c TooLong bytes is why = why
+catalog_not_refused c (BadByte at) bytes is why = why
+catalog_not_refused c (NumberTooBig at) bytes is why = why
+catalog_not_refused c (NameTooLong at) bytes is why = why
+catalog_not_refused c (BadSyntax at) bytes is why = why
+catalog_not_refused c (TooDeep at) bytes is why = why
+
+-- ---- the answers to `plan`
+
+-- the outcome of a query under rules does not depend on the catalog
+same_outcome : (r : Rules) (c d : Catalog) (q : Query) (o : Outcome) → IsOutcome r c q o → IsOutcome r d q o
+same_outcome r c d q (planned p) best = best
+same_outcome r c d q unplanned none = none
+
+same_decides : (r : Rules) (c d : Catalog) (q : Query) (fetches : Fetches) (came : Status) (text : List ℕ) → Decides r c q fetches came text → Decides r d q fetches came text
+same_decides r c d q fetches came text h = record { outcome = h.outcome; comes = same_outcome r c d q h.outcome h.comes; fetched = h.fetched; status = h.status; is = h.is }
+
+any_catalog : (r : Rules) (c d : Catalog) (names : Names) (fetches : Fetches) (came : Status) (text : List ℕ) → CatalogComes r c names fetches came text → CatalogComes r d names fetches came text
+any_catalog r c d names fetches came text (sources.refused refusal why all is e) = sources.refused refusal why all is e
+any_catalog r c d names fetches came text (sources.failed fails is e) = sources.failed fails is e
+any_catalog r c d names fetches came text (sources.read q told next) = sources.read q told (same_decides r c d q fetches came text next)
+
+-- a best plan and the lack of one exclude each other
+one_outcome : (r : Rules) (c d : Catalog) (q : Query) (o p : Outcome) → IsOutcome r c q o → IsOutcome r d q p → outcome_status o ≡ outcome_status p
+one_outcome r c d q (planned x) (planned y) h k = refl
+one_outcome r c d q (planned x) unplanned h k = absurd (k x h.0)
+one_outcome r c d q unplanned (planned y) h k = absurd (h y k.0)
+one_outcome r c d q unplanned unplanned h k = refl
+
+module _ (laws : Laws) (names : Names) (fetches : Fetches) where
+  decides_settles : (r : Rules) (c : Catalog) (q : Query) → Settles fetches (Decides r c q fetches)
+  decides_settles r c q came text h = inr h.fetched
+
+  catalog_settles : (r : Rules) (c : Catalog) → Settles fetches (CatalogComes r c names fetches)
+  catalog_settles r c = chain_settles (query_source r c names.query) fetches (λ q. Decides r c q fetches) (decides_settles r c)
+
+  rules_settles : (r : Rules) → Settles fetches (RulesComes r names fetches)
+  rules_settles r = chain_settles (catalog_source names.catalog) fetches (λ c. CatalogComes r c names fetches) (catalog_settles r)
+
+  module _ (files : Files) (tells : fetches.held ≡ Some files) where
+    query_clear : (r : Rules) (c : Catalog) → IsClear (query_source r c names.query)
+    query_clear r c q = read_not_refused laws (query_grammar r c) (query_apart laws r c) q
+
+    rules_clear : IsClear (rules_source names.rules)
+    rules_clear r = read_not_refused laws rules_grammar (rules_apart laws) r
+
+    module _ (below : fetches.before < last_count) where
+      one_decision : (r : Rules) (c d : Catalog) (q p : Query) → q ≡ p → One (Decides r c q fetches) (Decides r d p fetches)
+      one_decision r c d q p same a b x y h k = h.status ∙ (one_outcome r c d p h.outcome k.outcome (subst (λ (z : Query). IsOutcome r c z h.outcome) same h.comes) k.comes ∙ sym k.status)
+
+      one_catalog : (r : Rules) (c : Catalog) → One (CatalogComes r c names fetches) (CatalogComes r c names fetches)
+      one_catalog r c =
+          chain_one (query_source r c names.query) fetches (λ q. Decides r c q fetches) files tells (query_clear r c) below
+          (λ q p bytes h k. one_decision r c c q p (one_value laws (query_grammar r c) (query_apart laws r c) q p bytes h k)) (decides_settles r c)
+
+      one_rules : (r : Rules) → One (RulesComes r names fetches) (RulesComes r names fetches)
+      one_rules r =
+          chain_one (catalog_source names.catalog) fetches (λ c. CatalogComes r c names fetches) files tells catalog_not_refused below
+          (λ c d bytes h k a b x y one other. one_catalog r d a b x y (any_catalog r c d names fetches a x one) other) (catalog_settles r)
+
+      one_plan : One (PlanComes names fetches) (PlanComes names fetches)
+      one_plan =
+          chain_one (rules_source names.rules) fetches (λ r. RulesComes r names fetches) files tells rules_clear below
+          (λ r s bytes h k a b x y one other. one_rules s a b x y (subst (λ (z : Rules). RulesComes z names fetches a x) (one_value laws rules_grammar (rules_apart laws) r s bytes h k) one) other) rules_settles
+
+    -- where all is read and no fetch fails, the outcome is answered
+    plan_complete : Still fetches.before fetches.after → (r : Rules) (c : Catalog) (q : Query) → IsRead (rules_source names.rules) fetches r → IsRead (catalog_source names.catalog) fetches c
+        → IsRead (query_source r c names.query) fetches q → (came : Status) (text : List ℕ) → PlanComes names fetches came text → Decides r c q fetches came text
+    plan_complete still r c q rules catalog query came text h =
+        let under = chain_complete (rules_source names.rules) fetches (λ s. RulesComes s names fetches) files tells rules_clear still r rules came text
+        (λ s bytes a b next. subst (λ (z : Rules). RulesComes z names fetches came text) (sym (one_value laws rules_grammar (rules_apart laws) r s bytes a b)) next) h in
+        let with_it = chain_complete (catalog_source names.catalog) fetches (λ d. CatalogComes r d names fetches) files tells catalog_not_refused still c catalog came text
+        (λ d bytes a b next. any_catalog r d c names fetches came text next) under in
+        chain_complete (query_source r c names.query) fetches (λ p. Decides r c p fetches) files tells (query_clear r c) still q query came text
+        (λ p bytes a b next. subst (λ (z : Query). Decides r c z fetches came text) (sym (one_value laws (query_grammar r c) (query_apart laws r c) q p bytes a b)) next) with_it
+
+-- ---- a run
 
 same_names : (words : List (List ℕ)) (n m : Names) → ArePlanWords words n → ArePlanWords words m → n ≡ m
 same_names words n m a b =
@@ -95,131 +180,121 @@ same_names words n m a b =
     let query : n.query ≡ m.query = cc e in
     λ i. record { rules = rules i; catalog = catalog i; query = query i }
 
-module _ (laws : Laws) (names : Names) (fetches : Fetches) (files : Files) (told : fetches.held ≡ Some files) where
-  rules_same : (r s : Rules) → HoldsRules names fetches r → HoldsRules names fetches s → r ≡ s
-  rules_same r s h h' = let b = told_both fetches.held files names.rules (Within text_limit (ReadsRules r)) (Within text_limit (ReadsRules s)) told h h' in one_rules laws.lists laws.rules b.0 r s (b.1).1 (b.2).1
+-- words mean one command
+same_command : (words : List (List ℕ)) (a b : Command) → Means words a → Means words b → a ≡ b
+same_command words (plan n) (plan m) is is' = ap plan (same_names words n m is is')
 
-  query_same : (r : Rules) (q p : Query) → HoldsQuery names fetches r q → HoldsQuery names fetches r p → q ≡ p
-  query_same r q p h h' = let b = told_both fetches.held files names.query (Within text_limit (ReadsQuery r q)) (Within text_limit (ReadsQuery r p)) told h h' in one_query laws.lists laws.queries b.0 r q p (b.1).1 (b.2).1
-
-  -- texts that are read are not refused
-  read_not_refused : (r : Rules) (c : Catalog) (q : Query) (text : List ℕ) → HoldsRules names fetches r → HoldsCatalog names fetches c → HoldsQuery names fetches r q → RefusedComes names fetches text → ⊥
-  read_not_refused r c q text rules catalog query (rules_refused refusal why all is) =
-      let b = told_both fetches.held files names.rules (Within text_limit (ReadsRules r)) (IsRulesRefused refusal) told rules why in
-      let reads = (b.1).1 in
-      not_refused laws.lists laws.never text_limit SpellsRules (λ ts. (s : Rules) × PlannedRules s ts) refusal b.0 reads.0 (b.1).0 reads.1 (r, reads.2.0) (r, reads.2) b.2
-  read_not_refused r c q text rules catalog query (catalog_refused refusal s held why all is) =
-      let b = told_both fetches.held files names.catalog (Within catalog_limit (ReadsCatalog c)) (IsCatalogRefused refusal) told catalog why in catalog_not_refused c refusal b.0 (b.1).0 (b.1).1 b.2
-  read_not_refused r c q text rules catalog query (query_refused refusal s d held held' why all is) =
-      let same = rules_same s r held rules in
-      let why' = subst (λ (x : Rules). Told fetches.held names.query (IsQueryRefused x refusal)) same why in
-      let b = told_both fetches.held files names.query (Within text_limit (ReadsQuery r q)) (IsQueryRefused r refusal) told query why' in
-      let reads = (b.1).1 in
-      not_refused laws.lists laws.never text_limit SpellsQuery (λ ts. (p : Query) × PlannedQuery r p ts) refusal b.0 reads.0 (b.1).0 reads.1 (q, reads.2.0) (q, reads.2) b.2
-
-  -- the best plan and the lack of one
-  not_both : (r s : Rules) (c d : Catalog) (q p : Query) (plan : Plan) → AreRead names fetches r c q → AreRead names fetches s d p → Best r.irules q plan → NoPlan s.irules p → ⊥
-  not_both r s c d q p plan one other best none =
-      let same = rules_same s r other.rules one.rules in
-      let query = subst (λ (x : Rules). HoldsQuery names fetches x p) same other.query in
-      let none' = subst (λ (x : Query). NoPlan r.irules x) (query_same r p q query one.query) (subst (λ (x : Rules). NoPlan x.irules p) same none) in
-      none' plan best.0
-
-  -- no fetch failed where the count is as before
-  fetched_not_failed : (text : List ℕ) → fetches.before < last_count → fetches.after ≡ fetches.before → ReadFaultComes names fetches text → ⊥
-  fetched_not_failed text below all (rules_failed fails is) = let rose = fails.0 in omega (arith, below, all, rose)
-  fetched_not_failed text below all (catalog_failed r held fails is) = let rose = fails.0 in omega (arith, below, all, rose)
-  fetched_not_failed text below all (query_failed r c held held' fails is) = let rose = fails.0 in omega (arith, below, all, rose)
-
-  refused_fetched : (text : List ℕ) → RefusedComes names fetches text → fetches.after ≡ fetches.before
-  refused_fetched text (rules_refused refusal why all is) = all
-  refused_fetched text (catalog_refused refusal s held why all is) = all
-  refused_fetched text (query_refused refusal s d held held' why all is) = all
-
-  -- two answers to `plan` are one
-  plan_answers : (one other : Status) (x y : List ℕ) → fetches.before < last_count → PlanComes names fetches one x → PlanComes names fetches other y → one ≡ other
-  plan_answers status.Done status.Done x y below h k = refl
-  plan_answers status.Done status.Refused x y below h k = absurd (read_not_refused h.rules h.catalog h.query y h.read.rules h.read.catalog h.read.query k)
-  plan_answers status.Done status.NoPlan x y below h k = absurd (not_both h.rules k.rules h.catalog k.catalog h.query k.query h.plan h.read k.read h.best k.none)
-  plan_answers status.Done status.ReadFault x y below h k = absurd (fetched_not_failed y below h.read.fetched k)
-  plan_answers status.Refused status.Done x y below h k = absurd (read_not_refused k.rules k.catalog k.query x k.read.rules k.read.catalog k.read.query h)
-  plan_answers status.Refused status.Refused x y below h k = refl
-  plan_answers status.Refused status.NoPlan x y below h k = absurd (read_not_refused k.rules k.catalog k.query x k.read.rules k.read.catalog k.read.query h)
-  plan_answers status.Refused status.ReadFault x y below h k = absurd (fetched_not_failed y below (refused_fetched x h) k)
-  plan_answers status.NoPlan status.Done x y below h k = absurd (not_both k.rules h.rules k.catalog h.catalog k.query h.query k.plan k.read h.read k.best h.none)
-  plan_answers status.NoPlan status.Refused x y below h k = absurd (read_not_refused h.rules h.catalog h.query y h.read.rules h.read.catalog h.read.query k)
-  plan_answers status.NoPlan status.NoPlan x y below h k = refl
-  plan_answers status.NoPlan status.ReadFault x y below h k = absurd (fetched_not_failed y below h.read.fetched k)
-  plan_answers status.ReadFault status.Done x y below h k = absurd (fetched_not_failed x below k.read.fetched h)
-  plan_answers status.ReadFault status.Refused x y below h k = absurd (fetched_not_failed x below (refused_fetched y k) h)
-  plan_answers status.ReadFault status.NoPlan x y below h k = absurd (fetched_not_failed x below k.read.fetched h)
-  plan_answers status.ReadFault status.ReadFault x y below h k = refl
-  plan_answers status.Usage other x y below h k = absurd h
-  plan_answers status.Limit other x y below h k = absurd h
-  plan_answers status.Disagree other x y below h k = absurd h
-  plan_answers status.Loop other x y below h k = absurd h
-  plan_answers status.WriteFault other x y below h k = absurd h
-  plan_answers status.Memory other x y below h k = absurd h
-  plan_answers status.CertRefused other x y below h k = absurd h
-  plan_answers one status.Usage x y below h k = absurd k
-  plan_answers one status.Limit x y below h k = absurd k
-  plan_answers one status.Disagree x y below h k = absurd k
-  plan_answers one status.Loop x y below h k = absurd k
-  plan_answers one status.WriteFault x y below h k = absurd k
-  plan_answers one status.Memory x y below h k = absurd k
-  plan_answers one status.CertRefused x y below h k = absurd k
-
--- what a run comes to: usage, want of memory, or an answer to `plan`
-abbrev IsOf : List (List ℕ) → Fetches → Status → List ℕ → Type 0
-IsOf words fetches came text =
-    ((came ≡ status.Usage) × ((names : Names) → ArePlanWords words names → ⊥)) ⊎ ((came ≡ status.Memory) ⊎ ((names : Names) × ArePlanWords words names × PlanComes names fetches came text))
-
-kinds : (words : List (List ℕ)) (fetches : Fetches) (came : Status) (text : List ℕ) → Comes words fetches came text → IsOf words fetches came text
-kinds words fetches status.Usage text h = inl (refl, h.unknown)
-kinds words fetches status.Memory text h = inr (inl refl)
-kinds words fetches status.Done text h = inr (inr h)
-kinds words fetches status.Refused text h = inr (inr h)
-kinds words fetches status.NoPlan text h = inr (inr h)
-kinds words fetches status.ReadFault text h = inr (inr h)
-kinds words fetches status.Limit text h = inr (inr h)
-kinds words fetches status.Disagree text h = inr (inr h)
-kinds words fetches status.Loop text h = inr (inr h)
-kinds words fetches status.WriteFault text h = inr (inr h)
-kinds words fetches status.CertRefused text h = inr (inr h)
+one_command : Laws → (command : Command) (fetches : Fetches) (files : Files) → fetches.held ≡ Some files → fetches.before < last_count → One (CommandComes command fetches) (CommandComes command fetches)
+one_command laws (plan names) fetches files tells below = one_plan laws names fetches files tells below
 
 pub one_answer : Laws → OneAnswer
-one_answer laws words fetches files one other x y told below h k = elim (kinds words fetches one x h) [
-  | inl (is, none) ↦ elim (kinds words fetches other y k) [
-    | inl (is', none') ↦ inl (is ∙ sym is')
-    | inr (inl memory) ↦ inr (inr memory)
-    | inr (inr (m, are', comes')) ↦ absurd (none m are')
-  ]
-  | inr (inl memory) ↦ inr (inl memory)
-  | inr (inr (n, are, comes)) ↦ elim (kinds words fetches other y k) [
-    | inl (is', none') ↦ absurd (none' n are)
-    | inr (inl memory) ↦ inr (inr memory)
-    | inr (inr (m, are', comes')) ↦ inl (plan_answers laws n fetches files told one other x y below comes (subst (λ (w : Names). PlanComes w fetches other y) (same_names words m n are' are) comes'))
-  ]
-]
+one_answer laws words fetches files one other x y tells below (unknown none all is e) (unknown none' all' is' e') = inl (is ∙ sym is')
+one_answer laws words fetches files one other x y tells below (unknown none all is e) (wanting is' e') = inr (inr is')
+one_answer laws words fetches files one other x y tells below (unknown none all is e) (known command means comes) = absurd (none command means)
+one_answer laws words fetches files one other x y tells below (wanting is e) k = inr (inl is)
+one_answer laws words fetches files one other x y tells below (known command means comes) (unknown none all is e) = absurd (none command means)
+one_answer laws words fetches files one other x y tells below (known command means comes) (wanting is e) = inr (inr is)
+one_answer laws words fetches files one other x y tells below (known command means comes) (known command' means' comes') =
+    inl (one_command laws command fetches files tells below one other x y comes (subst (λ (z : Command). CommandComes z fetches other y) (same_command words command' command means' means) comes'))
+
+-- ---- texts that leave no choice
+
+decides_text : (r : Rules) (c : Catalog) (q : Query) (fetches : Fetches) (text : List ℕ) → Decides r c q fetches status.NoPlan text → text ≡ no_plan_text
+decides_text r c q fetches text h = by_outcome h.outcome h.status h.is where
+  by_outcome : (o : Outcome) → status.NoPlan ≡ outcome_status o → text ≡ outcome_text r o → text ≡ no_plan_text
+  by_outcome (planned p) is e = absurd (cc is)
+  by_outcome unplanned is e = e
+
+no_plan_says : (names : Names) (fetches : Fetches) (text : List ℕ) → PlanComes names fetches status.NoPlan text → text ≡ no_plan_text
+no_plan_says names fetches =
+    chain_text (rules_source names.rules) fetches (λ r. RulesComes r names fetches) status.NoPlan no_plan_text (λ e. cc e) (λ e. cc e) (λ r.
+    chain_text (catalog_source names.catalog) fetches (λ c. CatalogComes r c names fetches) status.NoPlan no_plan_text (λ e. cc e) (λ e. cc e) (λ c.
+    chain_text (query_source r c names.query) fetches (λ q. Decides r c q fetches) status.NoPlan no_plan_text (λ e. cc e) (λ e. cc e) (λ q.
+    decides_text r c q fetches)))
+
+-- a command comes to neither of the answers that are no command's
+command_text : (command : Command) (fetches : Fetches) (text : List ℕ) → CommandComes command fetches status.NoPlan text → text ≡ no_plan_text
+command_text (plan names) fetches text h = no_plan_says names fetches text h
+
+decides_status : (r : Rules) (c : Catalog) (q : Query) (fetches : Fetches) (came : Status) (text : List ℕ) → Decides r c q fetches came text → came ≢ status.Usage × came ≢ status.Memory × came ≢ status.WriteFault
+decides_status r c q fetches came text h = by_outcome h.outcome h.status where
+  by_outcome : (o : Outcome) → came ≡ outcome_status o → came ≢ status.Usage × came ≢ status.Memory × came ≢ status.WriteFault
+  by_outcome (planned p) is = ((λ e. let z : status.Done ≡ status.Usage = sym is ∙ e in cc z), (λ e. let z : status.Done ≡ status.Memory = sym is ∙ e in cc z), (λ e. let z : status.Done ≡ status.WriteFault = sym is ∙ e in cc z))
+  by_outcome unplanned is = ((λ e. let z : status.NoPlan ≡ status.Usage = sym is ∙ e in cc z), (λ e. let z : status.NoPlan ≡ status.Memory = sym is ∙ e in cc z), (λ e. let z : status.NoPlan ≡ status.WriteFault = sym is ∙ e in cc z))
+
+-- an answer to a command is none of these
+abbrev IsOwn : Status → Type 0
+IsOwn came = (came ≢ status.Usage) × (came ≢ status.Memory) × (came ≢ status.WriteFault)
+
+chain_own : {X : Type 0} (s : sources.Source X) (fetches : Fetches) (Next : X → Status → List ℕ → Type 0) → ((x : X) (came : Status) (text : List ℕ) → Next x came text → IsOwn came)
+    → (came : Status) (text : List ℕ) → Chain s fetches Next came text → IsOwn came
+chain_own s fetches Next own came text (sources.refused refusal why all is e) =
+    ((λ e. let z : status.Refused ≡ status.Usage = sym is ∙ e in cc z), (λ e. let z : status.Refused ≡ status.Memory = sym is ∙ e in cc z), (λ e. let z : status.Refused ≡ status.WriteFault = sym is ∙ e in cc z))
+chain_own s fetches Next own came text (sources.failed fails is e) =
+    ((λ e. let z : status.ReadFault ≡ status.Usage = sym is ∙ e in cc z), (λ e. let z : status.ReadFault ≡ status.Memory = sym is ∙ e in cc z), (λ e. let z : status.ReadFault ≡ status.WriteFault = sym is ∙ e in cc z))
+chain_own s fetches Next own came text (sources.read x told next) = own x came text next
+
+command_own : (command : Command) (fetches : Fetches) (came : Status) (text : List ℕ) → CommandComes command fetches came text → IsOwn came
+command_own (plan names) fetches =
+    chain_own (rules_source names.rules) fetches (λ r. RulesComes r names fetches) (λ r.
+    chain_own (catalog_source names.catalog) fetches (λ c. CatalogComes r c names fetches) (λ c.
+    chain_own (query_source r c names.query) fetches (λ q. Decides r c q fetches) (λ q. decides_status r c q fetches)))
+
+-- no answer is a write fault before it is put
+pub no_write_fault : (words : List (List ℕ)) (fetches : Fetches) (came : Status) (text : List ℕ) → Comes words fetches came text → came ≢ status.WriteFault
+no_write_fault words fetches came text (unknown none all is e) f = let z : status.Usage ≡ status.WriteFault = sym is ∙ f in cc z
+no_write_fault words fetches came text (wanting is e) f = let z : status.Memory ≡ status.WriteFault = sym is ∙ f in cc z
+no_write_fault words fetches came text (known command means comes) f = (command_own command fetches came text comes).2 f
+
+-- the one text of usage, want of memory and no plan
+text_of : Status → List ℕ
+text_of status.Usage = usage_text
+text_of status.NoPlan = no_plan_text
+text_of _ = memory_text
+
+says : (words : List (List ℕ)) (fetches : Fetches) (came : Status) (text : List ℕ) → HasOneText came → Comes words fetches came text → text ≡ text_of came
+unfolding text_of
+says words fetches status.Usage text h (unknown none all is e) = e
+says words fetches status.Usage text h (wanting is e) = absurd (cc is)
+says words fetches status.Usage text h (known command means comes) = absurd ((command_own command fetches status.Usage text comes).0 refl)
+says words fetches status.NoPlan text h (unknown none all is e) = absurd (cc is)
+says words fetches status.NoPlan text h (wanting is e) = absurd (cc is)
+says words fetches status.NoPlan text h (known command means comes) = command_text command fetches text comes
+says words fetches status.Memory text h (unknown none all is e) = absurd (cc is)
+says words fetches status.Memory text h (wanting is e) = e
+says words fetches status.Memory text h (known command means comes) = absurd ((command_own command fetches status.Memory text comes).1 refl)
+says words fetches status.Done text h k = absurd h
+says words fetches status.Refused text h k = absurd h
+says words fetches status.Limit text h k = absurd h
+says words fetches status.Disagree text h k = absurd h
+says words fetches status.Loop text h k = absurd h
+says words fetches status.ReadFault text h k = absurd h
+says words fetches status.WriteFault text h k = absurd h
+says words fetches status.CertRefused text h k = absurd h
+
+pub one_answer_text : OneText
+one_answer_text words fetches came text text' h one other = says words fetches came text h one ∙ sym (says words fetches came text' h other)
 
 -- ---- no fault without a cause
 
-sure_holds : (held : Option Files) (sure : _) (files : Files) (name : List ℕ) (limit : ℕ) → held ≡ Some files → sure ≡ true → IsHeld files name → MayFail held sure name limit → ⊥
-sure_holds None sure files name limit told is (bytes, at) may = cc told
-sure_holds (Some all) sure files name limit told is (bytes, at) may =
-    let unsure : sure ≡ false = (may bytes (ap (λ fs. held_under fs name) (some_is all files told) ∙ at)).1 in
-    let clash : true ≡ false = sym is ∙ unsure in
-    cc clash
-
 pub never_fails : NeverFails
-never_fails names fetches files text told is rules catalog query (rules_failed fails e) = sure_holds fetches.held fetches.sure files names.rules text_limit told is rules fails.1
-never_fails names fetches files text told is rules catalog query (catalog_failed r held fails e) = sure_holds fetches.held fetches.sure files names.catalog catalog_limit told is catalog fails.1
-never_fails names fetches files text told is rules catalog query (query_failed r c held held' fails e) = sure_holds fetches.held fetches.sure files names.query text_limit told is query fails.1
+never_fails names fetches files text tells is rules catalog query =
+    chain_sure (rules_source names.rules) fetches (λ r. RulesComes r names fetches) files tells is rules.0 rules.1 (λ r.
+    chain_sure (catalog_source names.catalog) fetches (λ c. CatalogComes r c names fetches) files tells is catalog.0 catalog.1 (λ c.
+    chain_sure (query_source r c names.query) fetches (λ q. Decides r c q fetches) files tells is query.0 query.1 (λ q t h. decides_no_fault r c q t h))) text where
+      decides_no_fault : (r : Rules) (c : Catalog) (q : Query) (t : List ℕ) → Decides r c q fetches status.ReadFault t → ⊥
+      decides_no_fault r c q t h = by_outcome h.outcome h.status where
+        by_outcome : (o : Outcome) → status.ReadFault ≡ outcome_status o → ⊥
+        by_outcome (planned p) e = cc e
+        by_outcome unplanned e = cc e
+
+pub never_unwritten : NeverUnwritten
+never_unwritten puts came ended text still put is = let whole = subst (λ (s : Status). PutsOnce puts came text s) is put in let rose = whole.0 in let at = still.0 in let below = still.1 in omega (arith, at, below, rose)
 
 -- ---- what a run ends with where nothing fails
 
 put_whole : (puts : Puts) (came : Status) (text : List ℕ) (ended : Status) → Still puts.before puts.after → PutsOnce puts came text ended → (ended ≡ status.Memory) ⊎ ((ended ≡ came) × PutsAll puts text)
-put_whole puts came text status.WriteFault still h = let rose = h.0 in absurd (omega (arith, still.0, still.1, rose))
+put_whole puts came text status.WriteFault still h = let rose = h.0 in let at = still.0 in let below = still.1 in absurd (omega (arith, at, below, rose))
 put_whole puts came text status.Memory still h = inl refl
 put_whole puts came text status.Done still h = inr h
 put_whole puts came text status.Usage still h = inr h
@@ -231,37 +306,19 @@ put_whole puts came text status.Loop still h = inr h
 put_whole puts came text status.ReadFault still h = inr h
 put_whole puts came text status.CertRefused still h = inr h
 
-module _ (laws : Laws) (names : Names) (fetches : Fetches) (files : Files) (told : fetches.held ≡ Some files) (r : Rules) (c : Catalog) (q : Query) where
-  module _ (rules : HoldsRules names fetches r) (catalog : HoldsCatalog names fetches c) (query : HoldsQuery names fetches r q) (still : Still fetches.before fetches.after) (puts : Puts) where
-    planned : (came : Status) (text : List ℕ) (ended : Status) → PlanComes names fetches came text → (ended ≡ came) × PutsAll puts text → EndsPlanned r q puts ended
-    planned status.Done text ended h (e, all) =
-        let same = rules_same laws names fetches files told h.rules r h.read.rules rules in
-        let query' = subst (λ (x : Rules). HoldsQuery names fetches x h.query) same h.read.query in
-        let best = subst (λ (x : Query). Best r.irules x h.plan) (query_same laws names fetches files told r h.query q query' query) (subst (λ (x : Rules). Best x.irules h.query h.plan) same h.best) in
-        inl (e, (h.plan, best, subst (λ (x : List ℕ). PutsAll puts x) (h.is ∙ ap (λ (x : Rules). plan_text x.irules h.plan) same) all))
-    planned status.NoPlan text ended h (e, all) =
-        let same = rules_same laws names fetches files told h.rules r h.read.rules rules in
-        let query' = subst (λ (x : Rules). HoldsQuery names fetches x h.query) same h.read.query in
-        let none = subst (λ (x : Query). NoPlan r.irules x) (query_same laws names fetches files told r h.query q query' query) (subst (λ (x : Rules). NoPlan x.irules h.query) same h.none) in
-        inr (inl (e, none, subst (λ (x : List ℕ). PutsAll puts x) h.is all))
-    planned status.Refused text ended h p = absurd (read_not_refused laws names fetches files told r c q text rules catalog query h)
-    planned status.ReadFault text ended h p = absurd (fetched_not_failed laws names fetches files told text (subst (λ n. n < last_count) still.0 still.1) still.0 h)
-    planned status.Usage text ended h p = absurd h
-    planned status.Limit text ended h p = absurd h
-    planned status.Disagree text ended h p = absurd h
-    planned status.Loop text ended h p = absurd h
-    planned status.WriteFault text ended h p = absurd h
-    planned status.Memory text ended h p = absurd h
-    planned status.CertRefused text ended h p = absurd h
-
 pub complete : Laws → Complete
-complete laws words names fetches puts files r c q ended told are rules catalog query still whole ends =
+complete laws words names fetches puts files r c q ended tells means rules catalog query still whole ends =
     elim (put_whole puts ends.came ends.text ended whole ends.put) [
-      | inl memory ↦ inr (inr memory)
-      | inr put ↦ elim (kinds words fetches ends.came ends.text ends.comes) [
-        | inl (is, none) ↦ absurd (none names are)
-        | inr (inl memory) ↦ inr (inr (put.0 ∙ memory))
-        | inr (inr (m, are', comes)) ↦
-            planned laws names fetches files told r c q rules catalog query still puts ends.came ends.text ended (subst (λ (w : Names). PlanComes w fetches ends.came ends.text) (same_names words m names are' are) comes) put
-      ]
-    ]
+      | inl memory ↦ inl memory
+      | inr put ↦ by_cause ends.came ends.text put ends.comes
+    ] where
+      decided : (came : Status) (text : List ℕ) → (ended ≡ came) × PutsAll puts text → Decides r c q fetches came text → EndsPlanned r c q puts ended
+      decided came text put h = inr (h.outcome, h.comes, put.0 ∙ h.status, subst (λ (t : List ℕ). PutsAll puts t) h.is put.1)
+
+      by_cause : (came : Status) (text : List ℕ) → (ended ≡ came) × PutsAll puts text → Comes words fetches came text → EndsPlanned r c q puts ended
+      by_cause came text put (unknown none all is e) = absurd (none (plan names) means)
+      by_cause came text put (wanting is e) = inl (put.0 ∙ is)
+      by_cause came text put (known command means' comes) =
+          decided came text put (
+          plan_complete laws names fetches files tells still r c q rules catalog query came text (
+          subst (λ (z : Command). CommandComes z fetches came text) (same_command words command (plan names) means' means) comes))

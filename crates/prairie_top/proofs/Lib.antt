@@ -1,3 +1,4 @@
+mod ChainLaws
 pub mod ConditionLaws
 pub mod FormLaws
 mod LawLemmas

@@ -7,7 +7,7 @@ use Rattle.pr_value.specs.Trees.{Tree, node, Trees, nil, cons, list_of}
 use Rattle.pr_value.specs.declared.kind.Kind.{Kind}
 use Rattle.pr_value.specs.declared.kind.Kind.TheVariants as kind
 use Rattle.rule_syntax.specs.declared.expr.BinOp.TheVariants as op
-use Rattle.rule_syntax.specs.declared.parts.Property.{Property}
+use Rattle.pr_value.specs.declared.property.Property.{Property}
 use Rattle.rule_syntax.specs.declared.sides.AlgName.{AlgName}
 use Rattle.rule_syntax.specs.declared.sides.AlgName.TheVariants as alg
 use Rattle.rule_syntax.specs.declared.sides.ImplSide.{ImplSide}

@@ -1,5 +1,5 @@
 -- Laws of what a run may come to, and of printed rule sets.
-use Rattle.std.specs.Prelude.{◌≡◌, ℕ, ◌<◌, true, List, Some, ◌⊎◌}
+use Rattle.std.specs.Prelude.{◌≡◌, ◌≢◌, ℕ, ◌<◌, true, List, Some, ◌⊎◌, ⊤}
 use Rattle.pr_outside.specs.Counts.{last_count, Still}
 use Rattle.pr_outside.specs.Files.{Files, held_under}
 use Rattle.catalog.specs.Contents.{Catalog}
@@ -9,12 +9,10 @@ use Rattle.rule_syntax.specs.Spelled.{spells}
 use Rattle.rule_syntax.specs.Tokens.{tokens_of}
 use Rattle.prairie_top.specs.declared.status.Status.{Status}
 use Rattle.prairie_top.specs.declared.status.Status.TheVariants as status
-use Rattle.prairie_top.specs.Plans.{Plan, Best, NoPlan}
-use Rattle.prairie_top.specs.PlanText.{plan_text}
-use Rattle.prairie_top.specs.Messages.{no_plan_text}
 use Rattle.prairie_top.specs.Reading.{HasTokens}
-use Rattle.prairie_top.specs.Run.{Fetches, Puts, Names, ArePlanWords}
-use Rattle.prairie_top.specs.Outcome.{HoldsRules, HoldsCatalog, HoldsQuery, ReadFaultComes, Comes, PutsAll, Ends}
+use Rattle.prairie_top.specs.Run.{Fetches, Puts, Names, plan, Means}
+use Rattle.prairie_top.specs.Sources.{IsRead}
+use Rattle.prairie_top.specs.Outcome.{Outcome, IsOutcome, outcome_status, outcome_text, rules_source, catalog_source, query_source, PlanComes, Comes, PutsAll, PutsOnce, Ends}
 
 -- over a shelf that tells its files, and whose count is below its end, a run comes to one answer, want of memory apart
 abbrev pub OneAnswer : Type 0
@@ -22,18 +20,27 @@ OneAnswer =
     (words : List (List ℕ)) (fetches : Fetches) (files : Files) (one other : Status) (text text' : List ℕ) → fetches.held ≡ Some files → fetches.before < last_count
     → Comes words fetches one text → Comes words fetches other text' → (one ≡ other) ⊎ ((one ≡ status.Memory) ⊎ (other ≡ status.Memory))
 
--- the run puts a best plan, or that there is none, or memory is wanting
-abbrev pub EndsPlanned : Rules → Query → Puts → Status → Type 0
-EndsPlanned r q puts ended =
-    ((ended ≡ status.Done) × ((p : Plan) × Best r.irules q p × PutsAll puts (plan_text r.irules p)))
-    ⊎ (((ended ≡ status.NoPlan) × NoPlan r.irules q × PutsAll puts no_plan_text) ⊎ (ended ≡ status.Memory))
+-- the answer leaves its text no choice
+abbrev pub HasOneText : Status → Type 0
+HasOneText status.Usage = ⊤
+HasOneText status.NoPlan = ⊤
+HasOneText status.Memory = ⊤
+HasOneText _ = ⊥
+
+-- such an answer has one text
+abbrev pub OneText : Type 0
+OneText = (words : List (List ℕ)) (fetches : Fetches) (came : Status) (text text' : List ℕ) → HasOneText came → Comes words fetches came text → Comes words fetches came text' → text ≡ text'
+
+-- the run puts the outcome whole, or memory is wanting
+abbrev pub EndsPlanned : Rules → Catalog → Query → Puts → Status → Type 0
+EndsPlanned r c q puts ended = (ended ≡ status.Memory) ⊎ ((o : Outcome) × IsOutcome r c q o × (ended ≡ outcome_status o) × PutsAll puts (outcome_text r o))
 
 -- `plan` over texts that are read ends so where no count rises
 abbrev pub Complete : Type 0
 Complete =
-    (words : List (List ℕ)) (names : Names) (fetches : Fetches) (puts : Puts) (files : Files) (r : Rules) (c : Catalog) (q : Query) (ended : Status) → fetches.held ≡ Some files → ArePlanWords words names
-    → HoldsRules names fetches r → HoldsCatalog names fetches c → HoldsQuery names fetches r q → Still fetches.before fetches.after → Still puts.before puts.after
-    → Ends words fetches puts ended → EndsPlanned r q puts ended
+    (words : List (List ℕ)) (names : Names) (fetches : Fetches) (puts : Puts) (files : Files) (r : Rules) (c : Catalog) (q : Query) (ended : Status) → fetches.held ≡ Some files → Means words (plan names)
+    → IsRead (rules_source names.rules) fetches r → IsRead (catalog_source names.catalog) fetches c → IsRead (query_source r c names.query) fetches q → Still fetches.before fetches.after → Still puts.before puts.after
+    → Ends words fetches puts ended → EndsPlanned r c q puts ended
 
 -- bytes are held under the name
 abbrev pub IsHeld : Files → List ℕ → Type 0
@@ -43,7 +50,11 @@ IsHeld files name = (bytes : List ℕ) × (held_under files name ≡ Some bytes)
 abbrev pub NeverFails : Type 0
 NeverFails =
     (names : Names) (fetches : Fetches) (files : Files) (text : List ℕ) → fetches.held ≡ Some files → fetches.sure ≡ true → IsHeld files names.rules → IsHeld files names.catalog → IsHeld files names.query
-    → ReadFaultComes names fetches text → ⊥
+    → PlanComes names fetches status.ReadFault text → ⊥
+
+-- over a sink whose count stays below its end and does not rise, no run ends with a write fault
+abbrev pub NeverUnwritten : Type 0
+NeverUnwritten = (puts : Puts) (came ended : Status) (text : List ℕ) → Still puts.before puts.after → PutsOnce puts came text ended → ended ≢ status.WriteFault
 
 -- the printed text of a rule set that the grammar spells has the rule set's tokens
 abbrev pub PrintsTokens : Type 0

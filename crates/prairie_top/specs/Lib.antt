@@ -9,4 +9,6 @@ pub mod Reading
 pub mod Run
 pub mod Search
 pub mod SeenNames
+pub mod Sources
 pub mod Stages
+pub mod Statuses

@@ -1,45 +1,76 @@
--- What the bytes of a text read as.
-use Rattle.std.specs.Prelude.{◌≡◌, ℕ, true, List, map, codes, None}
+-- What the bytes of a text read as, and why they are refused for what they say.
+use Rattle.std.specs.Prelude.{◌≡◌, ℕ, true, false, ◌++◌, List, [], ◌∷◌, length, map, codes, Some, None, ◌≢◌, ⊤}
 use Rattle.serde_json.specs.Data.{Data}
 use Rattle.serde_json.specs.Find.{get}
 use Rattle.catalog.specs.Contents.{Catalog}
 use Rattle.catalog.specs.Shape.{IsJson, first_bad, Says}
 use Rattle.pr_value.specs.declared.token.Token.{Token}
-use Rattle.rule_lex.specs.Lexes.{Lexes}
+use Rattle.rule_lex.specs.Lexes.{Lexes, Refuses as LexRefuses}
+use Rattle.rule_lex.specs.declared.error.LexError.TheVariants as lex
 use Rattle.rule_syntax.specs.Syntax.{Rules, Query}
 use Rattle.rule_syntax.specs.Tokens.{Text}
 use Rattle.rule_syntax.specs.Levels.{IsRules, IsQuery}
 use Rattle.prairie_top.specs.Form.{is_planned, is_planned_query}
+use Rattle.prairie_top.specs.declared.stage.Refusal.{Refusal}
+use Rattle.prairie_top.specs.declared.stage.Refusal.TheVariants.{BadByte, NumberTooBig, NameTooLong, BadSyntax, TooDeep, NotJson, BadShape, Unbuilt}
 
 -- the text has these tokens, wherever they stand
 abbrev pub HasTokens : List ℕ → Text → Type 0
 HasTokens bytes ts = (placed : List (Token × ℕ)) × Lexes bytes placed × (map (λ p. p.0) placed ≡ ts)
 
--- the tokens are those of a rule set, and of one that is planned
-abbrev pub SpellsRules : Text → Type 0
-SpellsRules ts = (r : Rules) × IsRules r ts
+-- the bytes have no tokens, for this reason at this first place
+abbrev pub HasNoTokens : Refusal → List ℕ → Type 0
+HasNoTokens (BadByte at) bytes = LexRefuses bytes (lex.BadByte at)
+HasNoTokens (NumberTooBig at) bytes = LexRefuses bytes (lex.NumberTooBig at)
+HasNoTokens (NameTooLong at) bytes = LexRefuses bytes (lex.NameTooLong at)
+HasNoTokens _ bytes = ⊥
 
-abbrev pub PlannedRules : Rules → Text → Type 0
-PlannedRules r ts = IsRules r ts × (is_planned r ≡ true)
+-- the syntax is refused
+abbrev pub IsSyntax : Refusal → Type 0
+IsSyntax (BadSyntax at) = ⊤
+IsSyntax (TooDeep at) = ⊤
+IsSyntax _ = ⊥
 
--- the bytes are a text of this rule set, which is planned
-abbrev pub ReadsRules : Rules → List ℕ → Type 0
-ReadsRules r bytes = (ts : Text) × HasTokens bytes ts × PlannedRules r ts
+-- the values of a grammar: which tokens each has, which are accepted, and why another is refused
+pub record Grammar (V : Type 0) : Type 1 where
+  pub Spells : V → Text → Type 0
+  pub Accepts : V → Type 0
+  pub Refuses : V → Refusal → Type 0
 
--- the JSON value is a catalog, and one that lists no files
-abbrev pub PlannedCatalog : Data → Type 0
-PlannedCatalog d = (first_bad d ≡ None) × (get (codes "files") d ≡ None)
+module _ {V : Type 0} (g : Grammar V) where
+  -- the bytes have the tokens of this value, which is accepted
+  abbrev pub Reads : V → List ℕ → Type 0
+  Reads v bytes = (ts : Text) × HasTokens bytes ts × g.Spells v ts × g.Accepts v
 
--- the bytes are the JSON text of this catalog, which is planned
+  -- the bytes have no tokens; or those of no value; or those of a value that is refused
+  pub data IsRefusedText (refusal : Refusal) (bytes : List ℕ) : Type 0 where
+    no_tokens : HasNoTokens refusal bytes → IsRefusedText refusal bytes
+    unread : (ts : Text) → IsSyntax refusal → HasTokens bytes ts → ((v : V) → g.Spells v ts → ⊥) → IsRefusedText refusal bytes
+    refused : (v : V) (ts : Text) → HasTokens bytes ts → g.Spells v ts → g.Refuses v refusal → IsRefusedText refusal bytes
+
+-- rule sets, of which those are accepted that are planned
+abbrev pub rules_grammar : Grammar Rules
+rules_grammar = record {
+  Spells = IsRules;
+  Accepts = λ r. is_planned r ≡ true;
+  Refuses = λ r refusal. (refusal ≡ Unbuilt) × (is_planned r ≡ false);
+}
+
+-- queries, of which those are accepted that are planned with these rules and this catalog
+abbrev pub query_grammar : Rules → Catalog → Grammar Query
+query_grammar r c = record {
+  Spells = IsQuery;
+  Accepts = λ q. is_planned_query r q ≡ true;
+  Refuses = λ q refusal. (refusal ≡ Unbuilt) × (is_planned_query r q ≡ false);
+}
+
+-- the bytes are the JSON text of this catalog, which lists no files
 abbrev pub ReadsCatalog : Catalog → List ℕ → Type 0
-ReadsCatalog c bytes = (d : Data) × IsJson bytes d × PlannedCatalog d × Says c d
+ReadsCatalog c bytes = (d : Data) × IsJson bytes d × (first_bad d ≡ None) × (get (codes "files") d ≡ None) × Says c d
 
--- the tokens are those of a query, and of one that is planned with the rules
-abbrev pub SpellsQuery : Text → Type 0
-SpellsQuery ts = (q : Query) × IsQuery q ts
-
-abbrev pub PlannedQuery : Rules → Query → Text → Type 0
-PlannedQuery r q ts = IsQuery q ts × (is_planned_query r q ≡ true)
-
-abbrev pub ReadsQuery : Rules → Query → List ℕ → Type 0
-ReadsQuery r q bytes = (ts : Text) × HasTokens bytes ts × PlannedQuery r q ts
+-- the bytes are no JSON; or have this first part that is not as it must be; or are a catalog that lists files
+abbrev pub IsRefusedCatalog : Refusal → List ℕ → Type 0
+IsRefusedCatalog NotJson bytes = (d : Data) → IsJson bytes d → ⊥
+IsRefusedCatalog (BadShape part) bytes = (d : Data) × IsJson bytes d × (first_bad d ≡ Some part)
+IsRefusedCatalog Unbuilt bytes = (d : Data) × IsJson bytes d × (first_bad d ≡ None) × (get (codes "files") d ≢ None)
+IsRefusedCatalog _ bytes = ⊥

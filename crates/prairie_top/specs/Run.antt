@@ -33,6 +33,14 @@ pub record ArePlanWords (words : List (List ℕ)) (names : Names) : Type 0 where
   pub catalog : begins_dash names.catalog ≡ false
   pub query : begins_dash names.query ≡ false
 
+-- what the words may ask for
+pub data Command : Type 0 where
+  plan : Names → Command
+
+-- the words ask for this command
+abbrev pub Means : List (List ℕ) → Command → Type 0
+Means words (plan names) = ArePlanWords words names
+
 -- such bytes are held under the name; where the shelf does not tell, nothing is known of them
 abbrev pub Told : Option Files → List ℕ → (List ℕ → Type 0) → Type 0
 Told None name P = ⊤

@@ -1,57 +1,52 @@
--- What became of a text that was asked for.
-use Rattle.std.specs.Prelude.{◌≡◌, ℕ, ◌<◌, List, length}
-use Rattle.rule_syntax.specs.Syntax.{Rules, Query}
-use Rattle.prairie_top.specs.declared.status.Status.{Status}
-use Rattle.prairie_top.specs.declared.status.Status.TheVariants as status
-use Rattle.pr_outside.specs.Counts.{Rose}
+-- What the parts of a run give: bytes that are read, texts that are had, and the answer where one is not.
+use Rattle.std.specs.Prelude.{◌≡◌, ℕ, ◌<◌, List, length, Result, Ok, Err, ◌⊎◌, ⊤}
 use Rattle.pr_outside.specs.Files.{MayFail}
-use Rattle.prairie_top.specs.declared.stage.Refusal.{Refusal}
-use Rattle.rule_lex.specs.Lexes.{Refuses}
-use Rattle.rule_lex.specs.declared.error.LexError.TheVariants as lex
-use Rattle.rule_syntax.specs.Tokens.{Text}
-use Rattle.prairie_top.specs.declared.stage.Refusal.TheVariants.{TooLong}
-use Rattle.prairie_top.specs.declared.stage.Refusal.TheVariants as refusals
-use Rattle.prairie_top.specs.declared.stage.Stage.{Stage}
-use Rattle.prairie_top.specs.declared.stage.Stage.TheVariants as stage
-use Rattle.prairie_top.specs.Run.{Fetches, Told}
-use Rattle.prairie_top.specs.Messages.{no_plan_text}
-use Rattle.prairie_top.specs.Outcome.{Within}
+use Rattle.pr_outside.specs.Counts.{Rose}
+use Rattle.prairie_top.specs.Messages.{refusal_text, fault_text, no_plan_text}
 use Rattle.prairie_top.specs.Plans.{Plan, Best, NoPlan}
 use Rattle.prairie_top.specs.PlanText.{plan_text}
+use Rattle.rule_syntax.specs.Syntax.{Rules, Query}
+use Rattle.prairie_top.specs.Run.{Fetches, Told}
+use Rattle.prairie_top.specs.Reading.{Grammar, IsSyntax}
+use Rattle.prairie_top.specs.Sources.{Within}
+use Rattle.rule_syntax.specs.Tokens.{Text}
+use Rattle.prairie_top.specs.declared.stage.Refusal.{Refusal}
+use Rattle.prairie_top.specs.declared.stage.Refusal.TheVariants.{TooLong}
+use Rattle.prairie_top.specs.declared.stage.Stop.{Stop}
+use Rattle.prairie_top.specs.declared.stage.Stop.TheVariants as stop
+use Rattle.prairie_top.specs.declared.stage.TextError.{TextError}
+use Rattle.prairie_top.specs.declared.stage.TextError.TheVariants as text_error
+use Rattle.prairie_top.specs.declared.status.Status.{Status}
+use Rattle.prairie_top.specs.declared.status.Status.TheVariants as status
 
--- the fetch failed, and may fail
-abbrev pub IsFailure : Fetches → List ℕ → ℕ → Type 0
-IsFailure fetches name limit = Rose fetches.before fetches.after × MayFail fetches.held fetches.sure name limit
+-- the bytes read as this, or are refused, or memory was wanting
+abbrev pub IsReading : {X : Type 0} → (X → List ℕ → Type 0) → (Refusal → List ℕ → Type 0) → List ℕ → Result X TextError → Type 0
+IsReading Reads Refuses bytes (Ok x) = Reads x bytes
+IsReading Reads Refuses bytes (Err (text_error.Refused refusal)) = Refuses refusal bytes
+IsReading Reads Refuses bytes (Err text_error.Memory) = ⊤
 
--- the held bytes are these and within the limit, or are past it, or the fetch failed
-abbrev pub IsFetched : Fetches → List ℕ → ℕ → Stage (List ℕ) → Type 0
-IsFetched fetches name limit (stage.Read bytes) = (fetches.after ≡ fetches.before) × Told fetches.held name (Within limit (λ held. held ≡ bytes))
-IsFetched fetches name limit (stage.Refused TooLong) = (fetches.after ≡ fetches.before) × Told fetches.held name (λ held. limit < length held)
-IsFetched fetches name limit (stage.Refused _) = ⊥
-IsFetched fetches name limit stage.Failed = IsFailure fetches name limit
+-- the tokens are those of a value that is accepted, or of none, or of one that is refused, or memory was wanting
+abbrev pub IsOfTokens : {V X : Type 0} → Grammar V → (X → V) → Text → Result X TextError → Type 0
+IsOfTokens g view ts (Ok x) = g.Spells (view x) ts × g.Accepts (view x)
+IsOfTokens {V} g view ts (Err (text_error.Refused refusal)) = (IsSyntax refusal × ((v : V) → g.Spells v ts → ⊥)) ⊎ ((v : V) × g.Spells v ts × g.Refuses v refusal)
+IsOfTokens g view ts (Err text_error.Memory) = ⊤
 
--- the held bytes are within the limit and read as this, or are refused, or the fetch failed
-abbrev pub IsStage : {X : Type 0} → (Refusal → List ℕ → Type 0) → (X → List ℕ → Type 0) → Fetches → List ℕ → ℕ → Stage X → Type 0
-IsStage IsRefused Reads fetches name limit (stage.Read x) = (fetches.after ≡ fetches.before) × Told fetches.held name (Within limit (Reads x))
-IsStage IsRefused Reads fetches name limit (stage.Refused refusal) = (fetches.after ≡ fetches.before) × Told fetches.held name (IsRefused refusal)
-IsStage IsRefused Reads fetches name limit stage.Failed = IsFailure fetches name limit
+-- what is held under the name is within the limit and reads as this, or is refused, or could not be read, or memory was wanting
+abbrev pub IsHad : {X : Type 0} → (X → List ℕ → Type 0) → (Refusal → List ℕ → Type 0) → Fetches → List ℕ → ℕ → Result X Stop → Type 0
+IsHad Reads Refuses fetches name limit (Ok x) = (fetches.after ≡ fetches.before) × Told fetches.held name (Within limit (Reads x))
+IsHad Reads Refuses fetches name limit (Err (stop.Refused refusal)) =
+    (fetches.after ≡ fetches.before) × Told fetches.held name (λ bytes. ((refusal ≡ TooLong) × (limit < length bytes)) ⊎ Within limit (Refuses refusal) bytes)
+IsHad Reads Refuses fetches name limit (Err stop.Failed) = Rose fetches.before fetches.after × MayFail fetches.held fetches.sure name limit
+IsHad Reads Refuses fetches name limit (Err stop.Memory) = ⊤
+
+-- the answer where a text is not had
+abbrev pub IsStopped : List ℕ → List ℕ → Stop → Status → List ℕ → Type 0
+IsStopped word name (stop.Refused refusal) came text = (came ≡ status.Refused) × (text ≡ refusal_text word refusal)
+IsStopped word name stop.Failed came text = (came ≡ status.ReadFault) × (text ≡ fault_text name)
+IsStopped word name stop.Memory came text = ⊥
 
 -- the text is that of a best plan, or there is no plan
 abbrev pub IsDecided : Rules → Query → Status → List ℕ → Type 0
 IsDecided r q status.Done text = (p : Plan) × Best r.irules q p × (text ≡ plan_text r.irules p)
 IsDecided r q status.NoPlan text = NoPlan r.irules q × (text ≡ no_plan_text)
 IsDecided r q _ text = ⊥
-
--- why bytes have no tokens
-abbrev pub HasNoTokens : Refusal → List ℕ → Type 0
-HasNoTokens (refusals.BadByte at) bytes = Refuses bytes (lex.BadByte at)
-HasNoTokens (refusals.NumberTooBig at) bytes = Refuses bytes (lex.NumberTooBig at)
-HasNoTokens (refusals.NameTooLong at) bytes = Refuses bytes (lex.NameTooLong at)
-HasNoTokens _ bytes = ⊥
-
--- why tokens are not planned
-abbrev pub AreRefused : (Text → Type 0) → (Text → Type 0) → Refusal → Text → Type 0
-AreRefused Spells Planned (refusals.BadSyntax at) ts = Spells ts → ⊥
-AreRefused Spells Planned (refusals.TooDeep at) ts = Spells ts → ⊥
-AreRefused Spells Planned refusals.Unbuilt ts = Spells ts × (Planned ts → ⊥)
-AreRefused Spells Planned _ ts = ⊥

@@ -1,15 +1,17 @@
-ghost use Rattle.prairie_top.specs.Laws.{OneAnswer, Complete, NeverFails, PrintsTokens};
+ghost use Rattle.prairie_top.specs.Laws.{OneAnswer, OneText, Complete, NeverFails, NeverUnwritten, PrintsTokens};
 
 use rule_lex::token_laws;
 use rule_syntax::spelling_laws;
 
-/// The answers of `run` exclude each other; `plan` over texts that are read ends with a best plan,
-/// or with `no plan`, or for want of memory, where nothing fails; and a shelf that is sure and
-/// holds the texts is no cause of a read fault.
+/// The answers of `run` exclude each other, and some have one text; `plan` over texts that are read
+/// ends with the outcome, or for want of memory, where nothing fails; a shelf that is sure and
+/// holds the texts is no cause of a read fault, and a sink that does not fail of no write fault.
 pub fn outcome_laws()
     ensures one_answer { OneAnswer }
+    ensures one_text { OneText }
     ensures complete { Complete }
     ensures sure { NeverFails }
+    ensures written { NeverUnwritten }
 {
     token_laws();
     spelling_laws();

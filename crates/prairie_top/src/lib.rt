@@ -3,7 +3,6 @@
 
 mod conditions;
 mod cost;
-mod fetching;
 mod form;
 mod laws;
 mod messages;
@@ -12,6 +11,7 @@ mod plan;
 mod plan_text;
 mod reading;
 mod search;
+mod source;
 mod stage;
 mod status;
 mod top;
@@ -20,6 +20,3 @@ mod words;
 pub use laws::{outcome_laws, printing_laws};
 pub use status::Status;
 pub use top::run;
-
-#[cfg(test)]
-mod tests;

@@ -1,15 +1,16 @@
 // From texts to rule sets, catalogs and queries that are planned, or why they are refused.
-ghost use Rattle.std.specs.Prelude.{◌≡◌, ◌≤◌, length, IfOk, MatchResult};
+ghost use Rattle.std.specs.Prelude.{◌≡◌, true, false, map, IfOk, IfErr};
 ghost use Rattle.pr_value.specs.Placed.{tokens_in};
+ghost use Rattle.rule_syntax.specs.Levels.{IsRules, IsQuery};
 ghost use Rattle.rule_syntax.specs.Seen.{seen_query};
 ghost use Rattle.rule_syntax.specs.SeenRules.{seen_rules};
-ghost use Rattle.rule_syntax.specs.Syntax as syntax;
-ghost use Rattle.prairie_top.specs.Outcome.{text_limit, catalog_limit, IsRulesRefused, IsCatalogRefused, IsQueryRefused};
-ghost use Rattle.prairie_top.specs.Reading.{HasTokens, SpellsRules, PlannedRules, ReadsRules, ReadsCatalog, SpellsQuery, PlannedQuery, ReadsQuery};
-ghost use Rattle.prairie_top.specs.Stages.{HasNoTokens, AreRefused};
+ghost use Rattle.rule_syntax.specs.Tokens.{Text as SeenText};
+ghost use Rattle.prairie_top.specs.Reading.{HasTokens, HasNoTokens, Reads, IsRefusedText, rules_grammar, query_grammar, ReadsCatalog, IsRefusedCatalog};
+ghost use Rattle.prairie_top.specs.Stages.{IsReading, IsOfTokens};
 
 use crate::form::{is_planned, is_planned_query};
-use crate::stage::Refusal;
+use crate::source::FromText;
+use crate::stage::{Refusal, TextError};
 use catalog::{Catalog, CatalogError, read_catalog};
 use pr_value::{Memory, Tokens};
 use rule_lex::{LexError, tokens};
@@ -17,97 +18,103 @@ use rule_syntax::{QueryText, Rules, SyntaxError, read_query, read_rules};
 use std::alloc::Global;
 
 /// The tokens of a text, or why it has none.
-fn tokens_of(alloc: Global, text: &[u8]) -> Result<Result<Tokens, Refusal>, Memory>
-    ensures { IfOk result (λ r. MatchResult r (λ ts. HasTokens text.now (tokens_in ts)) (λ e. HasNoTokens e text.now)) }
+fn tokens_of(alloc: Global, text: &[u8]) -> Result<Tokens, TextError>
+    ensures { IsReading (λ ts bytes. HasTokens bytes (tokens_in ts)) HasNoTokens text.now result }
 {
     match tokens(alloc, text) {
-        Ok(ts) => Ok(Ok(ts)),
-        Err(LexError::BadByte { at }) => Ok(Err(Refusal::BadByte { at })),
-        Err(LexError::NumberTooBig { at }) => Ok(Err(Refusal::NumberTooBig { at })),
-        Err(LexError::NameTooLong { at }) => Ok(Err(Refusal::NameTooLong { at })),
-        Err(LexError::Memory) => Err(Memory),
+        Ok(ts) => Ok(ts),
+        Err(LexError::BadByte { at }) => Err(TextError::Refused(Refusal::BadByte { at })),
+        Err(LexError::NumberTooBig { at }) => Err(TextError::Refused(Refusal::NumberTooBig { at })),
+        Err(LexError::NameTooLong { at }) => Err(TextError::Refused(Refusal::NameTooLong { at })),
+        Err(LexError::Memory) => Err(TextError::Memory),
     }
 }
 
 /// The rule set of these tokens, where it is planned.
-fn rules_of(alloc: Global, ts: &Tokens) -> Result<Result<Rules, Refusal>, Memory>
-    ensures { IfOk result (λ o. MatchResult o (λ r. PlannedRules (seen_rules r) (tokens_in ts.now))
-        (λ e. AreRefused SpellsRules (λ us. (r : syntax.Rules) × PlannedRules r us) e (tokens_in ts.now))) }
+fn rules_of(alloc: Global, ts: &Tokens) -> Result<Rules, TextError>
+    ensures { IsOfTokens rules_grammar seen_rules (tokens_in ts.now) result }
 {
     match read_rules(alloc, ts) {
         Ok(rules) => {
             if is_planned(alloc, &rules)? {
-                return Ok(Ok(rules));
+                return Ok(rules);
             }
-            Ok(Err(Refusal::Unbuilt))
+            Err(TextError::Refused(Refusal::Unbuilt))
         }
-        Err(SyntaxError::BadSyntax { at }) => Ok(Err(Refusal::BadSyntax { at })),
-        Err(SyntaxError::TooDeep { at }) => Ok(Err(Refusal::TooDeep { at })),
-        Err(SyntaxError::Memory) => Err(Memory),
+        Err(SyntaxError::BadSyntax { at }) => Err(TextError::Refused(Refusal::BadSyntax { at })),
+        Err(SyntaxError::TooDeep { at }) => Err(TextError::Refused(Refusal::TooDeep { at })),
+        Err(SyntaxError::Memory) => Err(TextError::Memory),
     }
 }
 
 /// The query of these tokens, where it is planned with the rules.
-fn query_of(alloc: Global, rules: &Rules, ts: &Tokens) -> Result<Result<QueryText, Refusal>, Memory>
-    ensures { IfOk result (λ o. MatchResult o (λ q. PlannedQuery (seen_rules rules.now) (seen_query q) (tokens_in ts.now))
-        (λ e. AreRefused SpellsQuery (λ us. (q : syntax.Query) × PlannedQuery (seen_rules rules.now) q us) e (tokens_in ts.now))) }
+fn query_of(alloc: Global, under: &Under<'_>, ts: &Tokens) -> Result<QueryText, TextError>
+    ensures { IsOfTokens (query_grammar (seen_rules under.now.rules.now) under.now.catalog.now) seen_query (tokens_in ts.now) result }
 {
     match read_query(alloc, ts) {
         Ok(query) => {
-            if is_planned_query(rules, &query) {
-                return Ok(Ok(query));
+            if is_planned_query(under.rules, &query) {
+                return Ok(query);
             }
-            Ok(Err(Refusal::Unbuilt))
+            Err(TextError::Refused(Refusal::Unbuilt))
         }
-        Err(SyntaxError::BadSyntax { at }) => Ok(Err(Refusal::BadSyntax { at })),
-        Err(SyntaxError::TooDeep { at }) => Ok(Err(Refusal::TooDeep { at })),
-        Err(SyntaxError::Memory) => Err(Memory),
+        Err(SyntaxError::BadSyntax { at }) => Err(TextError::Refused(Refusal::BadSyntax { at })),
+        Err(SyntaxError::TooDeep { at }) => Err(TextError::Refused(Refusal::TooDeep { at })),
+        Err(SyntaxError::Memory) => Err(TextError::Memory),
     }
 }
 
-/// The rule set that a text reads as, where it is planned.
-pub fn rules_in(alloc: Global, text: &[u8]) -> Result<Result<Rules, Refusal>, Memory>
-    ensures { IfOk result (λ o. MatchResult o (λ r. ReadsRules (seen_rules r) text.now) (λ e. length text.now ≤ text_limit → IsRulesRefused e text.now)) }
-{
-    match tokens_of(alloc, text)? {
-        Ok(ts) => {
-            let read = rules_of(alloc, &ts)?;
-            Ok(read)
+impl FromText<()> for Rules {
+    ghost reads = { λ _ r. Reads rules_grammar (seen_rules r) };
+
+    ghost refuses = { λ _. IsRefusedText rules_grammar };
+
+    fn from_text(alloc: Global, _context: &(), text: &[u8]) -> Result<Rules, TextError> {
+        match tokens_of(alloc, text) {
+            Ok(ts) => rules_of(alloc, &ts),
+            Err(error) => Err(error),
         }
-        Err(refusal) => Ok(Err(refusal)),
     }
 }
 
-/// The catalog that a text reads as, where it is planned.
-pub fn catalog_in(alloc: Global, text: &[u8]) -> Result<Result<Catalog, Refusal>, Memory>
-    ensures { IfOk result (λ o. MatchResult o (λ c. ReadsCatalog c text.now) (λ e. length text.now ≤ catalog_limit → IsCatalogRefused e text.now)) }
-{
-    match read_catalog(alloc, text) {
-        Ok(catalog) => {
-            if catalog.lists_files() {
-                return Ok(Err(Refusal::Unbuilt));
+impl FromText<()> for Catalog {
+    ghost reads = { λ _. ReadsCatalog };
+
+    ghost refuses = { λ _. IsRefusedCatalog };
+
+    fn from_text(alloc: Global, _context: &(), text: &[u8]) -> Result<Catalog, TextError> {
+        match read_catalog(alloc, text) {
+            Ok(catalog) => {
+                if catalog.lists_files() {
+                    return Err(TextError::Refused(Refusal::Unbuilt));
+                }
+                Ok(catalog)
             }
-            Ok(Ok(catalog))
+            Err(CatalogError::NotJson) => Err(TextError::Refused(Refusal::NotJson)),
+            Err(CatalogError::BadShape { part }) => {
+                Err(TextError::Refused(Refusal::BadShape { part }))
+            }
+            Err(CatalogError::Memory) => Err(TextError::Memory),
         }
-        Err(CatalogError::NotJson) => Ok(Err(Refusal::NotJson)),
-        Err(CatalogError::BadShape { part }) => Ok(Err(Refusal::BadShape { part })),
-        Err(CatalogError::Memory) => Err(Memory),
     }
 }
 
-/// The query that a text reads as, where it is planned with the rules.
-pub fn query_in(
-    alloc: Global,
-    rules: &Rules,
-    text: &[u8],
-) -> Result<Result<QueryText, Refusal>, Memory>
-    ensures { IfOk result (λ o. MatchResult o (λ q. ReadsQuery (seen_rules rules.now) (seen_query q) text.now) (λ e. length text.now ≤ text_limit → IsQueryRefused (seen_rules rules.now) e text.now)) }
-{
-    match tokens_of(alloc, text)? {
-        Ok(ts) => {
-            let read = query_of(alloc, rules, &ts)?;
-            Ok(read)
+/// What a query is read under.
+#[derive(Clone, Copy)]
+pub struct Under<'a> {
+    pub rules: &'a Rules,
+    pub catalog: &'a Catalog,
+}
+
+impl<'a> FromText<Under<'a>> for QueryText {
+    ghost reads = { λ u q. Reads (query_grammar (seen_rules u.rules.now) u.catalog.now) (seen_query q) };
+
+    ghost refuses = { λ u. IsRefusedText (query_grammar (seen_rules u.rules.now) u.catalog.now) };
+
+    fn from_text(alloc: Global, under: &Under<'a>, text: &[u8]) -> Result<QueryText, TextError> {
+        match tokens_of(alloc, text) {
+            Ok(ts) => query_of(alloc, under, &ts),
+            Err(error) => Err(error),
         }
-        Err(refusal) => Ok(Err(refusal)),
     }
 }

@@ -1,4 +1,5 @@
 use catalog::CatalogPart;
+use pr_value::Memory;
 
 /// Why a text is refused. Offsets are in bytes from the start of the text.
 #[derive(Clone, Copy, PartialEq, Eq, Debug)]
@@ -23,11 +24,29 @@ pub enum Refusal {
     Unbuilt,
 }
 
-/// What became of a text that was asked for.
-#[derive(Debug, Drop)]
-pub enum Stage<T> {
-    Read(T),
+/// Why bytes do not read as a value.
+#[derive(Clone, Copy, PartialEq, Eq, Debug)]
+pub enum TextError {
+    Refused(Refusal),
+    Memory,
+}
+
+/// Why a text that was asked for is not had.
+#[derive(Clone, Copy, PartialEq, Eq, Debug)]
+pub enum Stop {
     Refused(Refusal),
     /// Its fetch failed.
     Failed,
+    Memory,
+}
+
+impl From<Memory> for TextError {
+    ghost use Rattle.prairie_top.specs.declared.stage.TextError.TheVariants as errors;
+    ghost use Rattle.std.specs.Prelude.{◌≡◌};
+
+    ghost from_gives = { λ _ e. e ≡ errors.Memory };
+
+    fn from(_error: Memory) -> TextError {
+        TextError::Memory
+    }
 }

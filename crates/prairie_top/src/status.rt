@@ -1,26 +1,50 @@
-/// How a run ends. The numbers are the program's exit statuses.
+ghost use Rattle.std.specs.Prelude.{◌≡◌};
+ghost use Rattle.prairie_top.specs.Statuses.{number};
+
+/// How a run ends.
 #[derive(Clone, Copy, PartialEq, Eq, Debug)]
 pub enum Status {
     /// A plan was put whole.
-    Done = 0,
+    Done,
     /// The words are none that the program knows.
-    Usage = 1,
+    Usage,
     /// The rules, the catalog or the query are refused.
-    Refused = 2,
+    Refused,
     /// No plan implements the query.
-    NoPlan = 3,
+    NoPlan,
     /// A limit was reached.
-    Limit = 4,
+    Limit,
     /// Equal trees have different views.
-    Disagree = 5,
+    Disagree,
     /// A tree equals a proper part of itself.
-    Loop = 6,
+    Loop,
     /// A text could not be read.
-    ReadFault = 7,
+    ReadFault,
     /// The answer could not be put whole.
-    WriteFault = 8,
+    WriteFault,
     /// There was not enough memory.
-    Memory = 9,
+    Memory,
     /// The certificate does not certify.
-    CertRefused = 10,
+    CertRefused,
+}
+
+impl Status {
+    /// The program's exit status, from 0 to 10.
+    pub fn number(self) -> u8
+        ensures { result ≡ number self }
+    {
+        match self {
+            Status::Done => 0,
+            Status::Usage => 1,
+            Status::Refused => 2,
+            Status::NoPlan => 3,
+            Status::Limit => 4,
+            Status::Disagree => 5,
+            Status::Loop => 6,
+            Status::ReadFault => 7,
+            Status::WriteFault => 8,
+            Status::Memory => 9,
+            Status::CertRefused => 10,
+        }
+    }
 }

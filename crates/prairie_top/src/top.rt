@@ -1,19 +1,20 @@
-ghost use Rattle.std.specs.Prelude.{◌≡◌, ◌≢◌, [], IfOk};
-ghost use Rattle.catalog.specs.Contents.{Catalog};
-ghost use Rattle.prairie_top.specs.Outcome.{HoldsRules, HoldsCatalog, PlanComes, Comes, PutsOnce, Ends};
+ghost use Rattle.std.specs.Prelude.{◌≡◌, ◌≢◌, ◌≤◌, [], IfOk};
+ghost use Rattle.prairie_top.specs.Outcome.{PlanComes, RulesComes, CatalogComes, Comes, PutsOnce, Ends};
 ghost use Rattle.rule_syntax.specs.Seen.{seen_query};
 ghost use Rattle.rule_syntax.specs.SeenRules.{seen_rules};
 ghost use Rattle.prairie_top.specs.SeenNames.{seen_names};
-ghost use Rattle.prairie_top.specs.Stages.{IsDecided};
+ghost use Rattle.prairie_top.specs.Stages.{IsDecided, IsStopped};
 
-use crate::fetching::{fetch_catalog, fetch_query, fetch_rules};
 use crate::messages::{push_fault, push_refusal};
 use crate::names::Names;
 use crate::plan_text::push_plan;
+use crate::reading::Under;
 use crate::search::best_plan;
-use crate::stage::Stage;
+use crate::source::{CATALOG_LIMIT, TEXT_LIMIT, source};
+use crate::stage::Stop;
 use crate::status::Status;
 use crate::words::plan_words;
+use catalog::Catalog;
 use pr_outside::{Name, PutError, Shelf, Sink};
 use pr_value::{Memory, Text};
 use rule_syntax::{QueryText, Rules};
@@ -32,6 +33,9 @@ pub fn run<F: Shelf, K: Sink>(alloc: Global, words: &[Name], shelf: &mut F, out:
         (record { written_before = K.written out.old; written_after = K.written out.new; before = K.faults out.old; after = K.faults out.new })
         result }
     ensures held { F.held shelf.new ≡ F.held shelf.old }
+    ensures sure { F.sure shelf.new ≡ F.sure shelf.old }
+    ensures counted { F.faults shelf.old ≤ F.faults shelf.new }
+    ensures counted_puts { K.faults out.old ≤ K.faults out.new }
 {
     let mut text = Text::new(alloc);
     match answer(alloc, words, shelf, &mut text) {
@@ -43,7 +47,8 @@ pub fn run<F: Shelf, K: Sink>(alloc: Global, words: &[Name], shelf: &mut F, out:
 /// Puts the text of an answer, and says how the run ends.
 fn put<K: Sink>(alloc: Global, came: Status, text: &[u8], out: &mut K) -> Status
     requires { came ≢ Status.WriteFault }
-    ensures { PutsOnce (record { written_before = K.written out.old; written_after = K.written out.new; before = K.faults out.old; after = K.faults out.new }) came text.now result }
+    ensures counted { K.faults out.old ≤ K.faults out.new }
+    ensures put { PutsOnce (record { written_before = K.written out.old; written_after = K.written out.new; before = K.faults out.old; after = K.faults out.new }) came text.now result }
 {
     match out.put(alloc, text) {
         Ok(()) => came,
@@ -61,6 +66,8 @@ fn answer<F: Shelf>(
 ) -> Result<Status, Memory>
     requires { text.old ≡ [] }
     ensures held { F.held shelf.new ≡ F.held shelf.old }
+    ensures sure { F.sure shelf.new ≡ F.sure shelf.old }
+    ensures counted { F.faults shelf.old ≤ F.faults shelf.new }
     ensures comes { IfOk result (λ came. Comes words.now (record { held = F.held shelf.old; sure = F.sure shelf.old; before = F.faults shelf.old; after = F.faults shelf.new }) came text.new) }
 {
     match plan_words(words) {
@@ -75,6 +82,30 @@ fn answer<F: Shelf>(
     }
 }
 
+/// The answer where a text is not had.
+fn stopped(
+    alloc: Global,
+    word: &[u8],
+    name: &Name,
+    stop: Stop,
+    text: &mut Text,
+) -> Result<Status, Memory>
+    requires { text.old ≡ [] }
+    ensures { IfOk result (λ came. IsStopped word.now name.now stop came text.new) }
+{
+    match stop {
+        Stop::Refused(refusal) => {
+            push_refusal(alloc, word, refusal, text)?;
+            Ok(Status::Refused)
+        }
+        Stop::Failed => {
+            push_fault(name, text)?;
+            Ok(Status::ReadFault)
+        }
+        Stop::Memory => Err(Memory),
+    }
+}
+
 /// What `plan` comes to.
 fn planned<F: Shelf>(
     alloc: Global,
@@ -82,20 +113,16 @@ fn planned<F: Shelf>(
     shelf: &mut F,
     text: &mut Text,
 ) -> Result<Status, Memory>
-    requires { text.old ≡ [] }
+    requires empty { text.old ≡ [] }
     ensures held { F.held shelf.new ≡ F.held shelf.old }
-    ensures comes { IfOk result (λ came. PlanComes (seen_names names.now) (record { held = F.held shelf.old; sure = F.sure shelf.old; before = F.faults shelf.old; after = F.faults shelf.new }) came text.new) }
+    ensures sure { F.sure shelf.new ≡ F.sure shelf.old }
+    ensures counted { F.faults shelf.old ≤ F.faults shelf.new }
+    ensures comes { IfOk result (λ came. PlanComes (seen_names names.now)
+        (record { held = F.held shelf.old; sure = F.sure shelf.old; before = F.faults shelf.old; after = F.faults shelf.new }) came text.new) }
 {
-    match fetch_rules(alloc, shelf, names.rules)? {
-        Stage::Read(rules) => with_rules(alloc, &rules, names, shelf, text),
-        Stage::Refused(refusal) => {
-            push_refusal(alloc, b"rules", refusal, text)?;
-            Ok(Status::Refused)
-        }
-        Stage::Failed => {
-            push_fault(names.rules, text)?;
-            Ok(Status::ReadFault)
-        }
+    match source::<F, (), Rules>(alloc, shelf, names.rules, TEXT_LIMIT, &()) {
+        Ok(rules) => with_rules(alloc, &rules, names, shelf, text),
+        Err(stop) => stopped(alloc, b"rules", names.rules, stop, text),
     }
 }
 
@@ -108,47 +135,45 @@ fn with_rules<F: Shelf>(
     text: &mut Text,
 ) -> Result<Status, Memory>
     requires empty { text.old ≡ [] }
-    requires rules { HoldsRules (seen_names names.now) (record { held = F.held shelf.old; sure = F.sure shelf.old; before = F.faults shelf.old; after = F.faults shelf.old }) (seen_rules rules.now) }
     ensures held { F.held shelf.new ≡ F.held shelf.old }
-    ensures comes { IfOk result (λ came. PlanComes (seen_names names.now) (record { held = F.held shelf.old; sure = F.sure shelf.old; before = F.faults shelf.old; after = F.faults shelf.new }) came text.new) }
+    ensures sure { F.sure shelf.new ≡ F.sure shelf.old }
+    ensures counted { F.faults shelf.old ≤ F.faults shelf.new }
+    ensures comes { IfOk result (λ came. RulesComes (seen_rules rules.now) (seen_names names.now)
+        (record { held = F.held shelf.old; sure = F.sure shelf.old; before = F.faults shelf.old; after = F.faults shelf.new }) came text.new) }
 {
-    match fetch_catalog(alloc, shelf, names.catalog)? {
-        Stage::Read(_catalog) => with_catalog(alloc, rules, names, shelf, text),
-        Stage::Refused(refusal) => {
-            push_refusal(alloc, b"catalog", refusal, text)?;
-            Ok(Status::Refused)
-        }
-        Stage::Failed => {
-            push_fault(names.catalog, text)?;
-            Ok(Status::ReadFault)
-        }
+    match source::<F, (), Catalog>(alloc, shelf, names.catalog, CATALOG_LIMIT, &()) {
+        Ok(catalog) => with_catalog(
+            alloc,
+            &Under {
+                rules,
+                catalog: &catalog,
+            },
+            names,
+            shelf,
+            text,
+        ),
+        Err(stop) => stopped(alloc, b"catalog", names.catalog, stop, text),
     }
 }
 
 /// What `plan` comes to once the rules and the catalog are read.
 fn with_catalog<F: Shelf>(
     alloc: Global,
-    rules: &Rules,
+    under: &Under<'_>,
     names: &Names<'_>,
     shelf: &mut F,
     text: &mut Text,
 ) -> Result<Status, Memory>
     requires empty { text.old ≡ [] }
-    requires rules { HoldsRules (seen_names names.now) (record { held = F.held shelf.old; sure = F.sure shelf.old; before = F.faults shelf.old; after = F.faults shelf.old }) (seen_rules rules.now) }
-    requires catalog { (c : Catalog) × HoldsCatalog (seen_names names.now) (record { held = F.held shelf.old; sure = F.sure shelf.old; before = F.faults shelf.old; after = F.faults shelf.old }) c }
     ensures held { F.held shelf.new ≡ F.held shelf.old }
-    ensures comes { IfOk result (λ came. PlanComes (seen_names names.now) (record { held = F.held shelf.old; sure = F.sure shelf.old; before = F.faults shelf.old; after = F.faults shelf.new }) came text.new) }
+    ensures sure { F.sure shelf.new ≡ F.sure shelf.old }
+    ensures counted { F.faults shelf.old ≤ F.faults shelf.new }
+    ensures comes { IfOk result (λ came. CatalogComes (seen_rules under.now.rules.now) under.now.catalog.now (seen_names names.now)
+        (record { held = F.held shelf.old; sure = F.sure shelf.old; before = F.faults shelf.old; after = F.faults shelf.new }) came text.new) }
 {
-    match fetch_query(alloc, rules, shelf, names.query)? {
-        Stage::Read(query) => decided(alloc, rules, &query, text),
-        Stage::Refused(refusal) => {
-            push_refusal(alloc, b"query", refusal, text)?;
-            Ok(Status::Refused)
-        }
-        Stage::Failed => {
-            push_fault(names.query, text)?;
-            Ok(Status::ReadFault)
-        }
+    match source::<F, Under<'_>, QueryText>(alloc, shelf, names.query, TEXT_LIMIT, under) {
+        Ok(query) => decided(alloc, under.rules, &query, text),
+        Err(stop) => stopped(alloc, b"query", names.query, stop, text),
     }
 }
 

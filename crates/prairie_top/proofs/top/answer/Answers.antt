@@ -1,9 +1,14 @@
+use Rattle.std.proofs.Common.{List, ℕ, ap, ◌∙◌, ◌++◌, refl}
+use Rattle.prairie_top.specs.Messages.{usage_text}
+use Rattle.prairie_top.specs.Outcome.{known, unknown}
+use Rattle.prairie_top.specs.Run.{Command, plan, Means, Names, ArePlanWords}
 use Rattle.prairie_top.specs.SeenNames.{seen_names}
-use Rattle.prairie_top.proofs.TopLaws.{plan_comes}
+use Rattle.prairie_top.proofs.TopLaws.{no_command}
 use Rattle.prairie_top.proofs.top.answer.Goals as goal
 
 pub returns-in_ok-came-in-Some-clause-comes : goal.returns-in_ok-came-in-Some-clause-comes
-returns-in_ok-came-in-Some-clause-comes g c =
-    plan_comes c.args.words.now (seen_names c.in-Some.names)
-    (record { held = g.F.Shelf.held c.args.shelf.now; sure = g.F.Shelf.sure c.args.shelf.now; before = g.F.Shelf.faults c.args.shelf.now; after = g.F.Shelf.faults c.planned.new.shelf })
-    c.in_ok-came-in-Some.came c.planned.new.text c.in-Some.ensures c.in_ok-came-in-Some.ensures.comes
+returns-in_ok-came-in-Some-clause-comes g c = known (plan (seen_names c.in-Some.names)) c.in-Some.ensures c.in_ok-came-in-Some.ensures.comes
+
+pub returns-in_ok-push_bytes-in-None-clause-comes : goal.returns-in_ok-push_bytes-in-None-clause-comes
+returns-in_ok-push_bytes-in-None-clause-comes g c =
+    unknown (no_command c.args.words.now c.in-None.ensures) refl refl (c.in_ok-push_bytes-in-None.ensures.ok ∙ ap (λ (t : List ℕ). t ++ usage_text) c.requires)

@@ -1,19 +1,34 @@
-use Rattle.rule_syntax.specs.SeenRules.{seen_rules}
-use Rattle.prairie_top.specs.Run.{Fetches}
-use Rattle.prairie_top.specs.Outcome.{IsQueryRefused, text_limit, query_refused, query_failed}
 use Rattle.rule_syntax.specs.Seen.{seen_query}
-use Rattle.prairie_top.specs.Reading.{ReadsQuery}
-use Rattle.prairie_top.proofs.TopLaws.{stage_refused, stage_failed}
+use Rattle.rule_syntax.specs.SeenRules.{seen_rules}
+use Rattle.prairie_top.specs.Outcome.{CatalogComes, Decides, query_source}
+use Rattle.prairie_top.specs.Reading.{Reads, query_grammar}
+use Rattle.prairie_top.specs.Run.{Fetches}
+use Rattle.prairie_top.specs.SeenNames.{seen_names}
+use Rattle.prairie_top.specs.Sources.{read}
+use Rattle.prairie_top.specs.Stages.{IsStopped, IsDecided}
+use Rattle.prairie_top.specs.declared.status.Status.{Status}
+use Rattle.prairie_top.proofs.ChainLaws.{stopped_chain}
+use Rattle.prairie_top.proofs.TopLaws.{ok_maps, decides}
 use Rattle.prairie_top.proofs.top.with_catalog.Goals as goal
 
-pub returns-in_ok-push_refusal-in-Refused-clause-comes : goal.returns-in_ok-push_refusal-in-Refused-clause-comes
-returns-in_ok-push_refusal-in-Refused-clause-comes g c =
-    let fetches : Fetches = record { held = g.F.Shelf.held c.args.shelf.now; sure = g.F.Shelf.sure c.args.shelf.now; before = g.F.Shelf.faults c.args.shelf.now; after = g.F.Shelf.faults c.fetch_query.new.shelf } in
-    let refused = stage_refused (IsQueryRefused (seen_rules c.args.rules.now)) (λ q. ReadsQuery (seen_rules c.args.rules.now) (seen_query q)) fetches c.args.names.now.query.now text_limit c.in_ok-query.field-0 c.in-Refused.refusal c.in-Refused.is c.in_ok-query.ensures.stage in
-    query_refused c.in-Refused.refusal (seen_rules c.args.rules.now) c.requires.catalog.0 c.requires.rules c.requires.catalog.1 refused.1 refused.0 c.in_ok-push_refusal-in-Refused.ensures
+pub returns-in-Ok-clause-comes : goal.returns-in-Ok-clause-comes
+returns-in-Ok-clause-comes g c =
+    let names = seen_names c.args.names.now in
+    let r = seen_rules c.args.under.now.rules.now in
+    let d = c.args.under.now.catalog.now in
+    let q = seen_query c.in-Ok.query in
+    let had = c.in-Ok.ensures.had in
+    let whole : Fetches = record { held = g.F.Shelf.held c.args.shelf.now; sure = g.F.Shelf.sure c.args.shelf.now; before = g.F.Shelf.faults c.args.shelf.now; after = g.F.Shelf.faults c.source.new.shelf } in
+    ok_maps (λ (came : Status). IsDecided r q came c.decided.new.text) (λ (came : Status). CatalogComes r d names whole came c.decided.new.text) c.decided.result
+    (λ came h. read q had.1 (decides r d q whole came c.decided.new.text had.0 h)) c.decided.ensures
 
-pub returns-in_ok-push_fault-in-Failed-clause-comes : goal.returns-in_ok-push_fault-in-Failed-clause-comes
-returns-in_ok-push_fault-in-Failed-clause-comes g c =
-    let fetches : Fetches = record { held = g.F.Shelf.held c.args.shelf.now; sure = g.F.Shelf.sure c.args.shelf.now; before = g.F.Shelf.faults c.args.shelf.now; after = g.F.Shelf.faults c.fetch_query.new.shelf } in
-    query_failed (seen_rules c.args.rules.now) c.requires.catalog.0 c.requires.rules c.requires.catalog.1 (stage_failed (IsQueryRefused (seen_rules c.args.rules.now)) (λ q. ReadsQuery (seen_rules c.args.rules.now) (seen_query q)) fetches c.args.names.now.query.now text_limit c.in_ok-query.field-0 c.in-Failed.is c.in_ok-query.ensures.stage)
-    c.in_ok-push_fault-in-Failed.ensures
+pub returns-in-Err-clause-comes : goal.returns-in-Err-clause-comes
+returns-in-Err-clause-comes g c =
+    let names = seen_names c.args.names.now in
+    let r = seen_rules c.args.under.now.rules.now in
+    let d = c.args.under.now.catalog.now in
+    let whole : Fetches = record { held = g.F.Shelf.held c.args.shelf.now; sure = g.F.Shelf.sure c.args.shelf.now; before = g.F.Shelf.faults c.args.shelf.now; after = g.F.Shelf.faults c.source.new.shelf } in
+    let source = query_source r d names.query in
+    ok_maps (λ (came : Status). IsStopped source.word source.name c.in-Err.stop came c.stopped.new.text) (λ (came : Status). CatalogComes r d names whole came c.stopped.new.text) c.stopped.result
+    (λ came. stopped_chain source (λ q. Reads (query_grammar r d) (seen_query q)) whole (λ q. Decides r d q whole) c.source.result c.in-Err.stop came c.stopped.new.text c.in-Err.is c.source.ensures.had)
+    c.stopped.ensures

@@ -1,0 +1,10 @@
+use Rattle.pr_value.specs.Placed.{tokens_in}
+use Rattle.rule_syntax.specs.Seen.{seen_query}
+use Rattle.rule_syntax.specs.SeenRules.{seen_rules}
+use Rattle.prairie_top.specs.Reading.{query_grammar}
+use Rattle.prairie_top.proofs.ReadingLaws.{read_tokens}
+use Rattle.prairie_top.proofs.reading.QueryTextFromTextUnder.from_text.Goals as goal
+
+pub returns-in-Ok : goal.returns-in-Ok
+returns-in-Ok c =
+    read_tokens (query_grammar (seen_rules c.args.under.now.rules.now) c.args.under.now.catalog.now) seen_query c.args.text.now (tokens_in c.in-Ok.ts) c.query_of.result c.in-Ok.ensures c.query_of.ensures
