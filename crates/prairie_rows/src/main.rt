@@ -1,0 +1,58 @@
+//! Runs tables of rows: texts with what the program answers of them, and prints which rows come out
+//! otherwise than they say.
+#![tactic(auto)]
+
+mod members;
+mod prints;
+mod reads;
+mod report;
+mod runs;
+mod texts;
+mod tokens;
+mod trouble;
+mod values;
+
+use report::Report;
+use serde_json::Value as Json;
+use std::alloc::Global;
+use std::{env, fs};
+use texts::Texts;
+use trouble::Trouble;
+
+fn main(rt: HostRuntime) -> Result<(), Trouble> {
+    let alloc = rt.alloc();
+    let mut texts = Texts::new(alloc);
+    let mut report = Report::new(alloc);
+    for name in env::args(&rt)?.skip(1) {
+        let text = fs::read_to_string(&rt, name.as_str())?;
+        let file = Json::from_str(alloc, text.as_str())?;
+        texts.learn(alloc, &file)?;
+        tables(alloc, &file, &texts, &mut report)?;
+    }
+    print!(rt; "{}", report.lines.as_str())?;
+    println!(rt;
+        "{} rows came out as expected, {} otherwise",
+        report.right, report.wrong
+    )?;
+    Ok(())
+}
+
+/// Runs the tables of a file, by their kinds.
+fn tables(alloc: Global, file: &Json, texts: &Texts, report: &mut Report) -> Result<(), Trouble> {
+    for table in members::items(file, "runs") {
+        runs::run_table(alloc, table, texts, report)?;
+    }
+    for table in members::items(file, "reads") {
+        reads::read_table(alloc, table, texts, report)?;
+    }
+    for table in members::items(file, "tokens") {
+        tokens::token_table(alloc, table, report)?;
+    }
+    for table in members::items(file, "values") {
+        values::value_table(alloc, table, texts, report)?;
+    }
+    for table in members::items(file, "prints") {
+        prints::print_table(alloc, table, texts, report)?;
+    }
+    Ok(())
+}

@@ -1,0 +1,58 @@
+// Rows of rule sets with their printed texts. What is printed reads and prints the same again.
+use crate::members::{items, said_string};
+use crate::report::Report;
+use crate::texts::Texts;
+use crate::trouble::Trouble;
+use pr_value::Text;
+use rule_lex::{LexError, tokens};
+use rule_syntax::{Rules, SyntaxError, print_rules, read_rules};
+use serde_json::Value as Json;
+use std::alloc::Global;
+
+pub fn print_table(
+    alloc: Global,
+    table: &Json,
+    texts: &Texts,
+    report: &mut Report,
+) -> Result<(), Trouble> {
+    let name = said_string(table, table, "table")?;
+    for row in items(table, "rows") {
+        let row_name = said_string(row, table, "row")?;
+        let Some(rules) = row.get("rules") else {
+            return Err(Trouble::Misshapen("rules"));
+        };
+        let text = texts.text(alloc, rules)?;
+        let once = printed(alloc, text.as_bytes())?;
+        let twice = printed(alloc, once.as_slice())?;
+        let is_same = once.as_slice() == twice.as_slice();
+        report.row(name, row_name, is_same, once.as_slice(), twice.as_slice())?;
+        if let Some(json) = row.get("answer") {
+            let wanted = texts.text(alloc, json)?;
+            let is_right = once.as_slice() == wanted.as_bytes();
+            report.row(name, row_name, is_right, wanted.as_bytes(), once.as_slice())?;
+        }
+    }
+    Ok(())
+}
+
+/// The printed text of the rule set that a text reads as.
+fn printed(alloc: Global, text: &[u8]) -> Result<Text, Trouble> {
+    let rules = rules_of(alloc, text)?;
+    let mut out = Text::new(alloc);
+    print_rules(alloc, &rules, &mut out)?;
+    Ok(out)
+}
+
+/// The rule set that a text reads as.
+pub fn rules_of(alloc: Global, text: &[u8]) -> Result<Rules, Trouble> {
+    let ts = match tokens(alloc, text) {
+        Ok(ts) => ts,
+        Err(LexError::Memory) => return Err(Trouble::Memory),
+        Err(_) => return Err(Trouble::Misshapen("the tokens of rules")),
+    };
+    match read_rules(alloc, &ts) {
+        Ok(rules) => Ok(rules),
+        Err(SyntaxError::Memory) => Err(Trouble::Memory),
+        Err(_) => Err(Trouble::Misshapen("the syntax of rules")),
+    }
+}

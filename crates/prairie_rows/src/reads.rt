@@ -1,0 +1,145 @@
+// Rows of texts with what reading them comes to. `@` stands before the token of a refusal and is no
+// part of the text; a refused text without it is refused at its end.
+use crate::members::{items, said_string, string};
+use crate::report::Report;
+use crate::texts::Texts;
+use crate::trouble::Trouble;
+use rule_lex::{LexError, tokens};
+use rule_syntax::{SyntaxError, read_query, read_rules};
+use serde_json::Value as Json;
+use std::alloc::Global;
+
+pub fn read_table(
+    alloc: Global,
+    table: &Json,
+    texts: &Texts,
+    report: &mut Report,
+) -> Result<(), Trouble> {
+    let name = said_string(table, table, "table")?;
+    let comes = said_string(table, table, "comes")?;
+    let is_query = said_string(table, table, "of")? == "query";
+    let frame = Frame::of(alloc, table, texts)?;
+    for row in items(table, "rows") {
+        let text = frame.around(alloc, texts.text(alloc, row)?.as_str())?;
+        match table.get("words") {
+            Some(_) => {
+                for word in items(table, "words") {
+                    let (one, at) = with_word(alloc, text.as_str(), string(word, "words")?)?;
+                    let came = reading(alloc, is_query, one.as_str())?;
+                    tell(alloc, name, one.as_str(), comes, at, came.as_str(), report)?;
+                }
+            }
+            None => {
+                let (one, at) = with_word(alloc, text.as_str(), "")?;
+                let came = reading(alloc, is_query, one.as_str())?;
+                tell(alloc, name, one.as_str(), comes, at, came.as_str(), report)?;
+            }
+        }
+    }
+    Ok(())
+}
+
+/// What stands around each text of a table.
+#[derive(Drop)]
+struct Frame {
+    before: String,
+    behind: String,
+}
+
+impl Frame {
+    fn of(alloc: Global, table: &Json, texts: &Texts) -> Result<Frame, Trouble> {
+        Ok(Frame {
+            before: side(alloc, table, "before", texts)?,
+            behind: side(alloc, table, "behind", texts)?,
+        })
+    }
+
+    fn around(&self, alloc: Global, text: &str) -> Result<String, Trouble> {
+        let before = self.before.as_str();
+        let behind = self.behind.as_str();
+        let out = format!(in alloc; "{before}{text}{behind}")?;
+        Ok(out)
+    }
+}
+
+fn side(alloc: Global, table: &Json, name: &str, texts: &Texts) -> Result<String, Trouble> {
+    match table.get(name) {
+        Some(json) => texts.text(alloc, json),
+        None => Ok(String::new(alloc)),
+    }
+}
+
+/// The text with the word in place of `@`, and the offset of `@`, or else the text's length.
+fn with_word(alloc: Global, text: &str, word: &str) -> Result<(String, usize), Trouble> {
+    match text.split_once('@') {
+        Some((before, behind)) => {
+            let out = format!(in alloc; "{before}{word}{behind}")?;
+            Ok((out, before.len()))
+        }
+        None => {
+            let out = String::from_str(alloc, text)?;
+            Ok((out, text.len()))
+        }
+    }
+}
+
+/// What reading a text comes to: `read`, or a refusal with its offset.
+fn reading(alloc: Global, is_query: bool, text: &str) -> Result<String, Trouble> {
+    let ts = match tokens(alloc, text.as_bytes()) {
+        Ok(ts) => ts,
+        Err(error) => return lex_text(alloc, error),
+    };
+    let read = if is_query {
+        read_query(alloc, &ts).map(|_| ())
+    } else {
+        read_rules(alloc, &ts).map(|_| ())
+    };
+    match read {
+        Ok(()) => {
+            let out = String::from_str(alloc, "read")?;
+            Ok(out)
+        }
+        Err(error) => syntax_text(alloc, error),
+    }
+}
+
+fn lex_text(alloc: Global, error: LexError) -> Result<String, Trouble> {
+    match error {
+        LexError::BadByte { at } => refusal(alloc, "BadByte", at),
+        LexError::NumberTooBig { at } => refusal(alloc, "NumberTooBig", at),
+        LexError::NameTooLong { at } => refusal(alloc, "NameTooLong", at),
+        LexError::Memory => Err(Trouble::Memory),
+    }
+}
+
+fn syntax_text(alloc: Global, error: SyntaxError) -> Result<String, Trouble> {
+    match error {
+        SyntaxError::BadSyntax { at } => refusal(alloc, "BadSyntax", at),
+        SyntaxError::TooDeep { at } => refusal(alloc, "TooDeep", at),
+        SyntaxError::Memory => Err(Trouble::Memory),
+    }
+}
+
+fn refusal(alloc: Global, kind: &str, at: usize) -> Result<String, Trouble> {
+    let out = format!(in alloc; "{kind} {at}")?;
+    Ok(out)
+}
+
+/// Reports a text, by its whole.
+fn tell(
+    alloc: Global,
+    table: &str,
+    text: &str,
+    comes: &str,
+    at: usize,
+    came: &str,
+    report: &mut Report,
+) -> Result<(), Trouble> {
+    let wanted = if comes == "read" {
+        String::from_str(alloc, comes)?
+    } else {
+        refusal(alloc, comes, at)?
+    };
+    let is_right = wanted.as_str() == came;
+    report.row(table, text, is_right, wanted.as_bytes(), came.as_bytes())
+}
