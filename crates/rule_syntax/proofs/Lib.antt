@@ -2,6 +2,7 @@ pub mod Opening
 pub mod TokenLaws
 pub mod ListLaws
 pub mod PartLists
+pub mod PlaceLaws
 pub mod Rows
 pub mod SeenLaws
 pub mod PrintLaws

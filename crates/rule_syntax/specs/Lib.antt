@@ -4,6 +4,7 @@ pub mod Descs
 pub mod DistinctQueries
 pub mod DistinctRules
 pub mod Levels
+pub mod Places
 pub mod Printable
 pub mod Reading
 pub mod ReadingExpr

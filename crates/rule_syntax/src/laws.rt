@@ -2,7 +2,14 @@
 ghost use Rattle.rule_syntax.specs.DistinctQueries.{DistinctQueries};
 ghost use Rattle.rule_syntax.specs.DistinctRules.{DistinctRules};
 ghost use Rattle.rule_syntax.specs.Printable.{HasTexts};
-ghost use Rattle.rule_syntax.specs.SpelledParts.{AreSpelled, OperatorParts, HelperParts, BodyParts, TRuleParts, IRuleParts, SetParts, CopyParts, BinaryParts, FoldParts, QueryParts};
+ghost use Rattle.rule_syntax.specs.SpelledParts.{AreSpelled, OperatorParts, AlgorithmParts};
+ghost use Rattle.rule_syntax.specs.SpelledParts.{HelperParts, BodyParts, TRuleParts, IRuleParts};
+ghost use Rattle.rule_syntax.specs.SpelledParts.{SetParts, CopyParts, NumberParts, SymbolParts};
+ghost use Rattle.rule_syntax.specs.SpelledParts.{SetMembers, ListMembers, VarParts, ReadParts};
+ghost use Rattle.rule_syntax.specs.SpelledParts.{CallParts, BinaryParts, FoldParts, LeftParts};
+ghost use Rattle.rule_syntax.specs.SpelledParts.{LeftStreamParts, RightParts, RightStreamParts};
+ghost use Rattle.rule_syntax.specs.SpelledParts.{ImplParts, ImplInParts, QueryParts, SettingParts};
+ghost use Rattle.rule_syntax.specs.SpelledParts.{LiteralParts};
 
 use crate::rule_set::Rules;
 
@@ -22,13 +29,29 @@ pub fn spelled_parts(rules: &Rules)
 /// The parts of what the grammar spells are spelled too.
 pub fn spelled_part_laws()
     ensures operators { OperatorParts }
+    ensures algorithms { AlgorithmParts }
     ensures helpers { HelperParts }
     ensures bodies { BodyParts }
     ensures trules { TRuleParts }
     ensures irules { IRuleParts }
     ensures sets { SetParts }
     ensures copies { CopyParts }
+    ensures numbers { NumberParts }
+    ensures symbols { SymbolParts }
+    ensures set_members { SetMembers }
+    ensures list_members { ListMembers }
+    ensures variables { VarParts }
+    ensures reads { ReadParts }
+    ensures calls { CallParts }
     ensures binaries { BinaryParts }
     ensures folds { FoldParts }
+    ensures lefts { LeftParts }
+    ensures left_streams { LeftStreamParts }
+    ensures rights { RightParts }
+    ensures right_streams { RightStreamParts }
+    ensures impls { ImplParts }
+    ensures impl_inputs { ImplInParts }
     ensures queries { QueryParts }
+    ensures settings { SettingParts }
+    ensures literals { LiteralParts }
 {}

@@ -1,9 +1,9 @@
 // The printer: functions that put the tokens of a part behind the tokens so far, and one that
 // writes the tokens with blanks between.
 mod expr;
+mod lists;
 mod parts;
 mod rules;
-mod sections;
 mod sides;
 mod spaced;
 mod tokens;

@@ -1,10 +1,10 @@
 // The readers: functions from the tokens that are left to what they begin with and the tokens
 // behind it.
 mod expr;
+mod lists;
 mod parts;
 mod query;
 mod rules;
-mod sections;
 mod settings;
 mod sides;
 mod stop;

@@ -4,6 +4,7 @@ ghost use Rattle.rule_syntax.specs.Seen.{seen_left, seen_left_in, seen_right, se
 ghost use Rattle.rule_syntax.specs.Tokens as text;
 ghost use Rattle.rule_syntax.specs.Tokens.{commas, left_tokens, right_tokens, impl_in_tokens, impl_tokens};
 
+use crate::printing::lists::{Printed, push_listed};
 use crate::printing::tokens::{
     close_side, open_call, push_comma, push_desc, push_mark, push_name, push_number, push_word,
 };
@@ -104,22 +105,13 @@ fn push_right_in(alloc: Global, input: &RightIn, tokens: &mut Items<Token>) -> R
     Ok(())
 }
 
-fn push_impl_in(alloc: Global, input: &ImplIn, tokens: &mut Items<Token>) -> Result<(), Memory>
-    ensures { OnOk result (tokens.new ≡ tokens.old ++ impl_in_tokens input.now) }
-{
-    push_named_stream(alloc, input.number, &input.desc, tokens)?;
-    Ok(())
-}
+impl Printed for ImplIn {
+    ghost spelling = { impl_in_tokens };
 
-/// The inputs of an algorithm, with commas between.
-fn push_impl_ins(alloc: Global, inputs: &[ImplIn], tokens: &mut Items<Token>) -> Result<(), Memory>
-    ensures { OnOk result (tokens.new ≡ tokens.old ++ commas (map impl_in_tokens inputs.now)) }
-{
-    for (i, input) in inputs.iter().enumerate() {
-        push_comma(i, tokens)?;
-        push_impl_in(alloc, input, tokens)?;
+    fn print(&self, alloc: Global, tokens: &mut Items<Token>) -> Result<(), Memory> {
+        push_named_stream(alloc, self.number, &self.desc, tokens)?;
+        Ok(())
     }
-    Ok(())
 }
 
 /// An algorithm's name, or `Null`.
@@ -143,7 +135,7 @@ pub fn push_impl(alloc: Global, side: &ImplSide, tokens: &mut Items<Token>) -> R
 {
     push_alg(alloc, &side.alg, tokens)?;
     push_mark(Mark::OpenParen, tokens)?;
-    push_impl_ins(alloc, side.inputs.as_slice(), tokens)?;
+    push_listed(alloc, side.inputs.as_slice(), tokens)?;
     close_side(alloc, &side.desc, tokens)?;
     Ok(())
 }

@@ -1,17 +1,19 @@
 // The readers of statements and declarations.
-ghost use Rattle.std.specs.Prelude.{◌≡◌, codes, length, map};
-ghost use Rattle.pr_value.specs.declared.token.Mark.TheVariants as marks;
+ghost use Rattle.std.specs.Prelude.{◌≡◌, [], ◌∷◌, map, refl};
+ghost use Rattle.std.proofs.lemmas.List.{map-append};
 ghost use Rattle.rule_syntax.specs.Levels.{most_levels};
 ghost use Rattle.rule_syntax.specs.Reading as lists;
 ghost use Rattle.rule_syntax.specs.Reading.{Gives};
 ghost use Rattle.rule_syntax.specs.ReadingParts as reading;
 ghost use Rattle.rule_syntax.specs.Seen.{seen_stmt, seen_body, seen_operator, seen_helper};
+ghost use Rattle.rule_syntax.specs.Syntax as syntax;
 
 use crate::expr::Stmt;
 use crate::parts::{Algorithm, Body, Helper, Operator, Param};
 use crate::reading::expr::{LEVELS, expr};
+use crate::reading::lists::{Parts, closed, filled};
 use crate::reading::stop::Stop;
-use crate::reading::tokens::{after, kind, mark, name, next_is_mark, number, word};
+use crate::reading::tokens::{kind, mark, name, next_is_mark, number, word};
 use pr_value::{Items, Mark, Property, Symbol, Token};
 use std::alloc::Global;
 
@@ -93,146 +95,193 @@ pub fn body(alloc: Global, ts: &[Token]) -> Result<(Body, &[Token]), Stop>
     Ok((Body { pre, test, post }, rest))
 }
 
-pub fn property(alloc: Global, ts: &[Token]) -> Result<(Property, &[Token]), Stop>
-    ensures { Gives (λ x. (x.0, x.1.now)) result (reading.property_at ts.now) }
-{
-    let rest = word(b"property", ts)?;
-    let (name, rest) = name(alloc, rest)?;
-    let rest = mark(Mark::Colon, rest)?;
-    let (kind, rest) = kind(rest)?;
-    let rest = mark(Mark::Semicolon, rest)?;
-    Ok((Property { name, kind }, rest))
-}
+/// `property name : kind;`
+pub struct Properties;
 
-pub fn operator(alloc: Global, ts: &[Token]) -> Result<(Operator, &[Token]), Stop>
-    ensures { Gives (λ x. (seen_operator x.0, x.1.now)) result (reading.operator_at most_levels ts.now) }
-{
-    let rest = word(b"operator", ts)?;
-    let (op, rest) = name(alloc, rest)?;
-    let rest = mark(Mark::OpenParen, rest)?;
-    let (views, rest) = views(alloc, rest)?;
-    let rest = mark(Mark::Colon, rest)?;
-    let (own, rest) = name(alloc, rest)?;
-    let (init, rest) = block(alloc, rest)?;
-    Ok((
-        Operator {
-            name: op,
-            views,
-            own,
-            init,
-        },
-        rest,
-    ))
-}
+impl Parts for Properties {
+    ghost use Rattle.pr_value.specs.declared.property.Property.{Property};
 
-/// The names of the input views, up to the closing parenthesis.
-#[tactic(auto, unfolding(crate::specs::Reading::filled_at))]
-fn views(alloc: Global, ts: &[Token]) -> Result<(Items<Symbol>, &[Token]), Stop>
-    ensures { Gives (λ x. (x.0, x.1.now)) result (lists.filled_at lists.name_at marks.CloseParen ts.now) }
-{
-    let (names, rest) = listed_names(alloc, ts)?;
-    let rest = mark(Mark::CloseParen, rest)?;
-    Ok((names, rest))
-}
+    type Part = Property;
 
-/// One name or more, with commas between.
-fn listed_names(alloc: Global, ts: &[Token]) -> Result<(Items<Symbol>, &[Token]), Stop>
-    ensures { Gives (λ x. (x.0, x.1.now)) result (lists.listed_at lists.name_at (length ts.now) ts.now) }
-{
-    let mut out = Items::new(alloc);
-    let mut rest = ts;
-    let mut left = ts.len();
-    while left > 0 {
-        left -= 1;
-        let (s, behind) = name(alloc, rest)?;
-        out.push(s)?;
-        match after(Mark::Comma, behind) {
-            Some(more) => rest = more,
-            None => return Ok((out, behind)),
-        }
+    ghost Seen = { Property };
+
+    ghost seen = { λ x. x };
+
+    ghost all_seen = { λ xs. xs };
+
+    ghost reads = { reading.property_at };
+
+    fn read(alloc: Global, ts: &[Token]) -> Result<(Property, &[Token]), Stop> {
+        let rest = word(b"property", ts)?;
+        let (name, rest) = name(alloc, rest)?;
+        let rest = mark(Mark::Colon, rest)?;
+        let (kind, rest) = kind(rest)?;
+        let rest = mark(Mark::Semicolon, rest)?;
+        Ok((Property { name, kind }, rest))
     }
-    Err(Stop::Bad { left: rest.len() })
+
+    ghost none = { refl };
+
+    ghost one_more = { λ xs x. refl };
 }
 
-pub fn algorithm(alloc: Global, ts: &[Token]) -> Result<(Algorithm, &[Token]), Stop>
-    ensures { Gives (λ x. (x.0, x.1.now)) result (reading.algorithm_at ts.now) }
-{
-    let rest = word(b"algorithm", ts)?;
-    let (name, rest) = name(alloc, rest)?;
-    let rest = mark(Mark::Slash, rest)?;
-    let (arity, rest) = number(rest)?;
-    let rest = mark(Mark::Semicolon, rest)?;
-    Ok((Algorithm { name, arity }, rest))
-}
+/// The names of the input views.
+struct Names;
 
-fn param(alloc: Global, ts: &[Token]) -> Result<(Param, &[Token]), Stop>
-    ensures { Gives (λ x. (x.0, x.1.now)) result (reading.param_at ts.now) }
-{
-    let (name, rest) = name(alloc, ts)?;
-    let rest = mark(Mark::Colon, rest)?;
-    let (kind, rest) = kind(rest)?;
-    Ok((Param { name, kind }, rest))
-}
+impl Parts for Names {
+    ghost use Rattle.pr_value.specs.Symbols.{Symbol};
 
-/// Any number of parameters, up to the closing parenthesis.
-#[tactic(auto, unfolding(crate::specs::Reading::closed_at))]
-fn params(alloc: Global, ts: &[Token]) -> Result<(Items<Param>, &[Token]), Stop>
-    ensures { Gives (λ x. (x.0, x.1.now)) result (lists.closed_at reading.param_at marks.CloseParen ts.now) }
-{
-    if let Some(rest) = after(Mark::CloseParen, ts) {
-        return Ok((Items::new(alloc), rest));
+    type Part = Symbol;
+
+    ghost Seen = { Symbol };
+
+    ghost seen = { λ x. x };
+
+    ghost all_seen = { λ xs. xs };
+
+    ghost reads = { lists.name_at };
+
+    fn read(alloc: Global, ts: &[Token]) -> Result<(Symbol, &[Token]), Stop> {
+        name(alloc, ts)
     }
-    filled_params(alloc, ts)
+
+    ghost none = { refl };
+
+    ghost one_more = { λ xs x. refl };
 }
 
-/// One parameter or more, up to the closing parenthesis.
-#[tactic(auto, unfolding(crate::specs::Reading::filled_at))]
-fn filled_params(alloc: Global, ts: &[Token]) -> Result<(Items<Param>, &[Token]), Stop>
-    ensures { Gives (λ x. (x.0, x.1.now)) result (lists.filled_at reading.param_at marks.CloseParen ts.now) }
-{
-    let (members, rest) = listed_params(alloc, ts)?;
-    let rest = mark(Mark::CloseParen, rest)?;
-    Ok((members, rest))
-}
+/// `operator name(views) : own { init }`
+pub struct Operators;
 
-/// One parameter or more, with commas between.
-fn listed_params(alloc: Global, ts: &[Token]) -> Result<(Items<Param>, &[Token]), Stop>
-    ensures { Gives (λ x. (x.0, x.1.now)) result (lists.listed_at reading.param_at (length ts.now) ts.now) }
-{
-    let mut out = Items::new(alloc);
-    let mut rest = ts;
-    let mut left = ts.len();
-    while left > 0 {
-        left -= 1;
-        let (p, behind) = param(alloc, rest)?;
-        out.push(p)?;
-        match after(Mark::Comma, behind) {
-            Some(more) => rest = more,
-            None => return Ok((out, behind)),
-        }
+impl Parts for Operators {
+    type Part = Operator;
+
+    ghost Seen = { syntax.Operator };
+
+    ghost seen = { seen_operator };
+
+    ghost all_seen = { map seen_operator };
+
+    ghost reads = { reading.operator_at most_levels };
+
+    fn read(alloc: Global, ts: &[Token]) -> Result<(Operator, &[Token]), Stop> {
+        let rest = word(b"operator", ts)?;
+        let (op, rest) = name(alloc, rest)?;
+        let rest = mark(Mark::OpenParen, rest)?;
+        let (views, rest) = filled::<Names>(alloc, Mark::CloseParen, rest)?;
+        let rest = mark(Mark::Colon, rest)?;
+        let (own, rest) = name(alloc, rest)?;
+        let (init, rest) = block(alloc, rest)?;
+        Ok((
+            Operator {
+                name: op,
+                views,
+                own,
+                init,
+            },
+            rest,
+        ))
     }
-    Err(Stop::Bad { left: rest.len() })
+
+    ghost none = { refl };
+
+    ghost one_more = { λ xs x. map-append seen_operator xs (x ∷ []) };
 }
 
-pub fn helper(alloc: Global, ts: &[Token]) -> Result<(Helper, &[Token]), Stop>
-    ensures { Gives (λ x. (seen_helper x.0, x.1.now)) result (reading.helper_at most_levels ts.now) }
-{
-    let rest = word(b"helper", ts)?;
-    let (name, rest) = name(alloc, rest)?;
-    let rest = mark(Mark::OpenParen, rest)?;
-    let (params, rest) = params(alloc, rest)?;
-    let rest = mark(Mark::Colon, rest)?;
-    let (result, rest) = kind(rest)?;
-    let rest = mark(Mark::Assign, rest)?;
-    let (body, rest) = expr(alloc, LEVELS, rest)?;
-    let rest = mark(Mark::Semicolon, rest)?;
-    Ok((
-        Helper {
-            name,
-            params,
-            result,
-            body,
-        },
-        rest,
-    ))
+/// `algorithm name / arity;`
+pub struct Algorithms;
+
+impl Parts for Algorithms {
+    ghost use Rattle.rule_syntax.specs.declared.parts.Algorithm.{Algorithm};
+
+    type Part = Algorithm;
+
+    ghost Seen = { Algorithm };
+
+    ghost seen = { λ x. x };
+
+    ghost all_seen = { λ xs. xs };
+
+    ghost reads = { reading.algorithm_at };
+
+    fn read(alloc: Global, ts: &[Token]) -> Result<(Algorithm, &[Token]), Stop> {
+        let rest = word(b"algorithm", ts)?;
+        let (name, rest) = name(alloc, rest)?;
+        let rest = mark(Mark::Slash, rest)?;
+        let (arity, rest) = number(rest)?;
+        let rest = mark(Mark::Semicolon, rest)?;
+        Ok((Algorithm { name, arity }, rest))
+    }
+
+    ghost none = { refl };
+
+    ghost one_more = { λ xs x. refl };
+}
+
+/// `name : kind`
+struct Params;
+
+impl Parts for Params {
+    ghost use Rattle.rule_syntax.specs.declared.parts.Param.{Param};
+
+    type Part = Param;
+
+    ghost Seen = { Param };
+
+    ghost seen = { λ x. x };
+
+    ghost all_seen = { λ xs. xs };
+
+    ghost reads = { reading.param_at };
+
+    fn read(alloc: Global, ts: &[Token]) -> Result<(Param, &[Token]), Stop> {
+        let (name, rest) = name(alloc, ts)?;
+        let rest = mark(Mark::Colon, rest)?;
+        let (kind, rest) = kind(rest)?;
+        Ok((Param { name, kind }, rest))
+    }
+
+    ghost none = { refl };
+
+    ghost one_more = { λ xs x. refl };
+}
+
+/// `helper name(params) : result = body;`
+pub struct Helpers;
+
+impl Parts for Helpers {
+    type Part = Helper;
+
+    ghost Seen = { syntax.Helper };
+
+    ghost seen = { seen_helper };
+
+    ghost all_seen = { map seen_helper };
+
+    ghost reads = { reading.helper_at most_levels };
+
+    fn read(alloc: Global, ts: &[Token]) -> Result<(Helper, &[Token]), Stop> {
+        let rest = word(b"helper", ts)?;
+        let (name, rest) = name(alloc, rest)?;
+        let rest = mark(Mark::OpenParen, rest)?;
+        let (params, rest) = closed::<Params>(alloc, Mark::CloseParen, rest)?;
+        let rest = mark(Mark::Colon, rest)?;
+        let (result, rest) = kind(rest)?;
+        let rest = mark(Mark::Assign, rest)?;
+        let (body, rest) = expr(alloc, LEVELS, rest)?;
+        let rest = mark(Mark::Semicolon, rest)?;
+        Ok((
+            Helper {
+                name,
+                params,
+                result,
+                body,
+            },
+            rest,
+        ))
+    }
+
+    ghost none = { refl };
+
+    ghost one_more = { λ xs x. map-append seen_helper xs (x ∷ []) };
 }

@@ -2,6 +2,7 @@
 ghost use Rattle.std.specs.Prelude.{◌≡◌, ◌≢◌, IfOk, IfErr, true, length, map};
 ghost use Rattle.pr_value.specs.Placed.{tokens_in};
 ghost use Rattle.rule_syntax.specs.Levels.{IsQuery};
+ghost use Rattle.rule_syntax.specs.Places.{IsAtPlace};
 ghost use Rattle.rule_syntax.specs.Reading.{Gives, filled_at, listed_at};
 ghost use Rattle.rule_syntax.specs.ReadingQuery as reading;
 ghost use Rattle.rule_syntax.specs.Seen.{seen_query};
@@ -10,7 +11,7 @@ ghost use Rattle.rule_syntax.specs.Syntax as syntax;
 
 use crate::error::SyntaxError;
 use crate::query::QueryText;
-use crate::reading::settings::settings;
+use crate::reading::settings::optional_settings;
 use crate::reading::stop::{Stop, refusal};
 use crate::reading::tokens::{after, is, is_free, mark, name, next_is, word};
 use pr_value::{Items, Mark, Token, Tokens};
@@ -25,6 +26,7 @@ pub fn read_query(alloc: Global, tokens: &Tokens) -> Result<QueryText, SyntaxErr
     ensures spelled { IfOk result (λ q. spells_query (seen_query q) ≡ true) }
     ensures only { IfOk result (λ q. (s : syntax.Query) → IsQuery s (tokens_in tokens.now) → s ≡ seen_query q) }
     ensures refused { IfErr result (λ e. e ≢ SyntaxError.Memory → (s : syntax.Query) → IsQuery s (tokens_in tokens.now) → ⊥) }
+    ensures place { IfErr result (IsAtPlace tokens.now.placed tokens.now.end) }
 {
     match whole(alloc, tokens.as_slice()) {
         Ok(query) => Ok(query),
@@ -99,7 +101,7 @@ fn operator(alloc: Global, levels: u64, ts: &[Token]) -> Result<(QueryText, &[To
     ensures { Gives (λ x. (seen_query x.0, x.1.now)) result (reading.operator_at (reading.query_at levels) ts.now) }
 {
     let (op, rest) = name(alloc, ts)?;
-    let (settings, rest) = settings(alloc, rest)?;
+    let (settings, rest) = optional_settings(alloc, rest)?;
     let rest = mark(Mark::OpenParen, rest)?;
     let (inputs, rest) = filled_queries(alloc, levels, rest)?;
     Ok((

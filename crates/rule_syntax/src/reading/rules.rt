@@ -1,9 +1,10 @@
 // The reader of a rule set.
-ghost use Rattle.std.specs.Prelude.{◌≡◌, ◌≢◌, IfOk, IfErr, codes, length, map};
+ghost use Rattle.std.specs.Prelude.{◌≡◌, ◌≢◌, [], ◌∷◌, IfOk, IfErr, map, refl};
+ghost use Rattle.std.proofs.lemmas.List.{map-append};
 ghost use Rattle.pr_value.specs.Placed.{tokens_in};
 ghost use Rattle.rule_syntax.specs.Levels.{most_levels, IsRules};
+ghost use Rattle.rule_syntax.specs.Places.{IsAtPlace};
 ghost use Rattle.rule_syntax.specs.Reading.{Gives};
-ghost use Rattle.rule_syntax.specs.ReadingParts.{section_at};
 ghost use Rattle.rule_syntax.specs.ReadingRules as reading;
 ghost use Rattle.rule_syntax.specs.Seen.{seen_trule, seen_irule};
 ghost use Rattle.rule_syntax.specs.SeenRules.{seen_rules};
@@ -12,103 +13,101 @@ ghost use Rattle.rule_syntax.specs.Syntax as syntax;
 use crate::error::SyntaxError;
 use crate::parts::{IRule, TRule};
 use crate::reading::expr::LEVELS;
-use crate::reading::parts::body;
-use crate::reading::sections::{algorithms, helpers, operators, properties};
+use crate::reading::lists::{Parts, section};
+use crate::reading::parts::{Algorithms, Helpers, Operators, Properties, body};
 use crate::reading::sides::{impl_side, left, right};
 use crate::reading::stop::{Stop, refusal};
-use crate::reading::tokens::{mark, name, next_is, word};
+use crate::reading::tokens::{mark, name, word};
 use crate::rule_set::Rules;
-use pr_value::{Items, Mark, Token, Tokens};
+use pr_value::{Mark, Token, Tokens};
 use std::alloc::Global;
 
-fn trule(alloc: Global, ts: &[Token]) -> Result<(TRule, &[Token]), Stop>
-    ensures { Gives (λ x. (seen_trule x.0, x.1.now)) result (reading.trule_at most_levels ts.now) }
-{
-    let rest = word(b"trule", ts)?;
-    let (name, rest) = name(alloc, rest)?;
-    let rest = mark(Mark::Colon, rest)?;
-    let (left, rest) = left(alloc, LEVELS, rest)?;
-    let rest = mark(Mark::Arrow, rest)?;
-    let (right, rest) = right(alloc, LEVELS, rest)?;
-    let (body, rest) = body(alloc, rest)?;
-    Ok((
-        TRule {
-            name,
-            left,
-            right,
-            body,
-        },
-        rest,
-    ))
-}
+/// `trule name : left => right body`
+struct TRules;
 
-fn irule(alloc: Global, ts: &[Token]) -> Result<(IRule, &[Token]), Stop>
-    ensures { Gives (λ x. (seen_irule x.0, x.1.now)) result (reading.irule_at most_levels ts.now) }
-{
-    let rest = word(b"irule", ts)?;
-    let (name, rest) = name(alloc, rest)?;
-    let rest = mark(Mark::Colon, rest)?;
-    let (left, rest) = left(alloc, LEVELS, rest)?;
-    let rest = mark(Mark::Arrow, rest)?;
-    let (right, rest) = impl_side(alloc, rest)?;
-    let (body, rest) = body(alloc, rest)?;
-    Ok((
-        IRule {
-            name,
-            left,
-            right,
-            body,
-        },
-        rest,
-    ))
-}
+impl Parts for TRules {
+    type Part = TRule;
 
-fn trules(alloc: Global, ts: &[Token]) -> Result<(Items<TRule>, &[Token]), Stop>
-    ensures { Gives (λ x. (map seen_trule x.0, x.1.now)) result (section_at (codes "trule") (reading.trule_at most_levels) ts.now) }
-{
-    let mut out = Items::new(alloc);
-    let mut rest = ts;
-    let mut left = ts.len();
-    while next_is(b"trule", rest) {
-        if left == 0 {
-            return Err(Stop::Bad { left: rest.len() });
-        }
-        left -= 1;
-        let (r, behind) = trule(alloc, rest)?;
-        out.push(r)?;
-        rest = behind;
+    ghost Seen = { syntax.TRule };
+
+    ghost seen = { seen_trule };
+
+    ghost all_seen = { map seen_trule };
+
+    ghost reads = { reading.trule_at most_levels };
+
+    fn read(alloc: Global, ts: &[Token]) -> Result<(TRule, &[Token]), Stop> {
+        let rest = word(b"trule", ts)?;
+        let (name, rest) = name(alloc, rest)?;
+        let rest = mark(Mark::Colon, rest)?;
+        let (left, rest) = left(alloc, LEVELS, rest)?;
+        let rest = mark(Mark::Arrow, rest)?;
+        let (right, rest) = right(alloc, LEVELS, rest)?;
+        let (body, rest) = body(alloc, rest)?;
+        Ok((
+            TRule {
+                name,
+                left,
+                right,
+                body,
+            },
+            rest,
+        ))
     }
-    Ok((out, rest))
+
+    ghost none = { refl };
+
+    ghost one_more = { λ xs x. map-append seen_trule xs (x ∷ []) };
 }
 
-fn irules(alloc: Global, ts: &[Token]) -> Result<(Items<IRule>, &[Token]), Stop>
-    ensures { Gives (λ x. (map seen_irule x.0, x.1.now)) result (section_at (codes "irule") (reading.irule_at most_levels) ts.now) }
-{
-    let mut out = Items::new(alloc);
-    let mut rest = ts;
-    let mut left = ts.len();
-    while next_is(b"irule", rest) {
-        if left == 0 {
-            return Err(Stop::Bad { left: rest.len() });
-        }
-        left -= 1;
-        let (r, behind) = irule(alloc, rest)?;
-        out.push(r)?;
-        rest = behind;
+/// `irule name : left => right body`
+struct IRules;
+
+impl Parts for IRules {
+    type Part = IRule;
+
+    ghost Seen = { syntax.IRule };
+
+    ghost seen = { seen_irule };
+
+    ghost all_seen = { map seen_irule };
+
+    ghost reads = { reading.irule_at most_levels };
+
+    fn read(alloc: Global, ts: &[Token]) -> Result<(IRule, &[Token]), Stop> {
+        let rest = word(b"irule", ts)?;
+        let (name, rest) = name(alloc, rest)?;
+        let rest = mark(Mark::Colon, rest)?;
+        let (left, rest) = left(alloc, LEVELS, rest)?;
+        let rest = mark(Mark::Arrow, rest)?;
+        let (right, rest) = impl_side(alloc, rest)?;
+        let (body, rest) = body(alloc, rest)?;
+        Ok((
+            IRule {
+                name,
+                left,
+                right,
+                body,
+            },
+            rest,
+        ))
     }
-    Ok((out, rest))
+
+    ghost none = { refl };
+
+    ghost one_more = { λ xs x. map-append seen_irule xs (x ∷ []) };
 }
 
 /// The six sections, with nothing behind them.
 fn whole(alloc: Global, ts: &[Token]) -> Result<Rules, Stop>
     ensures { Gives seen_rules result (reading.rules_at most_levels ts.now) }
 {
-    let (properties, rest) = properties(alloc, ts)?;
-    let (operators, rest) = operators(alloc, rest)?;
-    let (algorithms, rest) = algorithms(alloc, rest)?;
-    let (helpers, rest) = helpers(alloc, rest)?;
-    let (trules, rest) = trules(alloc, rest)?;
-    let (irules, rest) = irules(alloc, rest)?;
+    let (properties, rest) = section::<Properties>(alloc, b"property", ts)?;
+    let (operators, rest) = section::<Operators>(alloc, b"operator", rest)?;
+    let (algorithms, rest) = section::<Algorithms>(alloc, b"algorithm", rest)?;
+    let (helpers, rest) = section::<Helpers>(alloc, b"helper", rest)?;
+    let (trules, rest) = section::<TRules>(alloc, b"trule", rest)?;
+    let (irules, rest) = section::<IRules>(alloc, b"irule", rest)?;
     if !rest.is_empty() {
         return Err(Stop::Bad { left: rest.len() });
     }
@@ -127,6 +126,7 @@ pub fn read_rules(alloc: Global, tokens: &Tokens) -> Result<Rules, SyntaxError>
     ensures found { IfOk result (λ r. IsRules (seen_rules r) (tokens_in tokens.now)) }
     ensures only { IfOk result (λ r. (s : syntax.Rules) → IsRules s (tokens_in tokens.now) → s ≡ seen_rules r) }
     ensures refused { IfErr result (λ e. e ≢ SyntaxError.Memory → (s : syntax.Rules) → IsRules s (tokens_in tokens.now) → ⊥) }
+    ensures place { IfErr result (IsAtPlace tokens.now.placed tokens.now.end) }
 {
     match whole(alloc, tokens.as_slice()) {
         Ok(rules) => Ok(rules),

@@ -1,10 +1,11 @@
 // The readers of the sides of rules.
-ghost use Rattle.std.specs.Prelude.{◌≡◌, ◌≢◌, length, map};
+ghost use Rattle.std.specs.Prelude.{◌≡◌, ◌≢◌, length, map, refl};
 ghost use Rattle.rule_syntax.specs.Reading.{Gives, filled_at, listed_at};
 ghost use Rattle.rule_syntax.specs.ReadingSides as sides;
 ghost use Rattle.rule_syntax.specs.Seen.{seen_left, seen_left_in, seen_right, seen_right_in};
 ghost use Rattle.rule_syntax.specs.Syntax.{LeftLabel, RightLabel};
 
+use crate::reading::lists::{Parts, filled};
 use crate::reading::stop::Stop;
 use crate::reading::tokens::{after, is_free, mark, name, next_is, next_is_mark, number, word};
 use crate::sides::{AlgName, ImplIn, ImplSide, Left, LeftIn, Right, RightIn};
@@ -222,37 +223,33 @@ pub fn impl_side(alloc: Global, ts: &[Token]) -> Result<(ImplSide, &[Token]), St
 {
     let (alg, rest) = alg_name(alloc, ts)?;
     let rest = mark(Mark::OpenParen, rest)?;
-    let (inputs, rest) = filled_impl_ins(alloc, rest)?;
+    let (inputs, rest) = filled::<ImplIns>(alloc, Mark::CloseParen, rest)?;
     let rest = mark(Mark::Colon, rest)?;
     let (desc, rest) = name(alloc, rest)?;
     Ok((ImplSide { alg, inputs, desc }, rest))
 }
 
-/// Inputs up to the closing parenthesis.
-#[tactic(auto, unfolding(crate::specs::Reading::filled_at))]
-fn filled_impl_ins(alloc: Global, ts: &[Token]) -> Result<(Items<ImplIn>, &[Token]), Stop>
-    ensures { Gives (λ x. (x.0, x.1.now)) result (filled_at sides.impl_in_at Mark.CloseParen ts.now) }
-{
-    let (inputs, rest) = listed_impl_ins(alloc, ts)?;
-    let rest = mark(Mark::CloseParen, rest)?;
-    Ok((inputs, rest))
-}
+/// `?number : desc`
+struct ImplIns;
 
-/// One input or more, with commas between.
-fn listed_impl_ins(alloc: Global, ts: &[Token]) -> Result<(Items<ImplIn>, &[Token]), Stop>
-    ensures { Gives (λ x. (x.0, x.1.now)) result (listed_at sides.impl_in_at (length ts.now) ts.now) }
-{
-    let mut out = Items::new(alloc);
-    let mut rest = ts;
-    let mut left = ts.len();
-    while left > 0 {
-        left -= 1;
-        let (x, behind) = impl_in(alloc, rest)?;
-        out.push(x)?;
-        match after(Mark::Comma, behind) {
-            Some(more) => rest = more,
-            None => return Ok((out, behind)),
-        }
+impl Parts for ImplIns {
+    ghost use Rattle.rule_syntax.specs.declared.sides.ImplIn.{ImplIn};
+
+    type Part = ImplIn;
+
+    ghost Seen = { ImplIn };
+
+    ghost seen = { λ x. x };
+
+    ghost all_seen = { λ xs. xs };
+
+    ghost reads = { sides.impl_in_at };
+
+    fn read(alloc: Global, ts: &[Token]) -> Result<(ImplIn, &[Token]), Stop> {
+        impl_in(alloc, ts)
     }
-    Err(Stop::Bad { left: rest.len() })
+
+    ghost none = { refl };
+
+    ghost one_more = { λ xs x. refl };
 }

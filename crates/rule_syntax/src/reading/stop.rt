@@ -1,5 +1,6 @@
 // Why a reader stopped.
 ghost use Rattle.std.specs.Prelude.{◌≡◌, ◌↔◌};
+ghost use Rattle.rule_syntax.specs.Places.{IsPlace, IsAtPlace};
 
 use crate::error::SyntaxError;
 use pr_value::{Memory, Tokens};
@@ -39,7 +40,10 @@ impl From<Memory> for Stop {
 }
 
 /// The offset of the token with so many tokens from it on, or the end of the text.
-fn place(tokens: &Tokens, left: usize) -> usize {
+#[tactic(auto, using(crate::proofs::PlaceLaws::token_place, crate::proofs::PlaceLaws::end_place))]
+fn place(tokens: &Tokens, left: usize) -> usize
+    ensures { IsPlace tokens.now.placed tokens.now.end result }
+{
     if left == 0 || left > tokens.count() {
         return tokens.end();
     }
@@ -48,7 +52,8 @@ fn place(tokens: &Tokens, left: usize) -> usize {
 
 /// What is answered where the reader of all of these tokens stopped.
 pub fn refusal(tokens: &Tokens, stop: Stop) -> SyntaxError
-    ensures { (result ≡ SyntaxError.Memory) ↔ (stop ≡ Stop.Memory) }
+    ensures memory { (result ≡ SyntaxError.Memory) ↔ (stop ≡ Stop.Memory) }
+    ensures place { IsAtPlace tokens.now.placed tokens.now.end result }
 {
     match stop {
         Stop::Bad { left } => SyntaxError::BadSyntax {

@@ -34,4 +34,4 @@ pub returns-in-Ok-clause-only : goal.returns-in-Ok-clause-only
 returns-in-Ok-clause-only c = only c.as_slice.result.now _ c.as_slice.ensures (seen_rules c.in-Ok.rules) c.in-Ok.ensures
 
 pub returns-in-Err-clause-refused : goal.returns-in-Err-clause-refused
-returns-in-Err-clause-refused c = refused c.as_slice.result.now _ c.as_slice.ensures c.in-Err.stop c.refusal.result c.in-Err.ensures (c.refusal.ensures.1)
+returns-in-Err-clause-refused c = refused c.as_slice.result.now _ c.as_slice.ensures c.in-Err.stop c.refusal.result c.in-Err.ensures (c.refusal.ensures.memory.1)
