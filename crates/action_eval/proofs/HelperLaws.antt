@@ -1,5 +1,5 @@
 -- Helpers by their names and places: what each means, its type, and room for its body.
-use Rattle.std.proofs.Common.{◌≡◌, ℕ, zero, suc, ◌+◌, ◌*◌, ◌<◌, ◌≤◌, true, false, cond, List, [], ◌∷◌, length, drop, take, get_or, map, Some, None, refl, ap, sym, ◌∙◌, arith}
+use Rattle.std.proofs.Common.{◌≡◌, ℕ, zero, suc, ◌<◌, true, false, cond, List, [], ◌∷◌, length, drop, take, get_or, map, Some, None, refl, ap, sym, ◌∙◌, arith}
 use Rattle.std.specs.Prelude.{◌||◌}
 use Rattle.std.specs.List.{list_any}
 use Rattle.std.specs.Cmp.{first_so, second_so}
@@ -21,7 +21,6 @@ use Rattle.action_eval.specs.Types.{kind_of, context_in}
 use Rattle.action_eval.proofs.CappedLaws.{bound-capped}
 use Rattle.action_eval.proofs.FunctionLaws.{HelpersSound, sound-with_builtins}
 use Rattle.action_eval.proofs.KindLaws.{Is, Sound, value-is}
-use Rattle.action_eval.proofs.Sizes.{size, weight}
 use Rattle.action_eval.proofs.TypeLaws.{cond-some, same_type-is, is_type-is}
 
 -- the scope of a helper's body
@@ -67,11 +66,6 @@ with_helpers-place layout catalog calls (g ∷ hs) zero h f args within is lates
     ∙ ap (λ b. cond b (value_by layout (with_builtins catalog calls) (body_scope g.params args) (seen_expr g.body)) (calls f args)) is
 with_helpers-place layout catalog calls (g ∷ hs) (suc i) h f args within is latest =
     with_helpers-place layout catalog (with_helper layout catalog calls (seen_helper g)) hs i h f args (omega (arith, within)) is latest
-
-pub weight-place : (hs : List rust.Helper) (i : ℕ) (h : rust.Helper) → i < length hs → weight (map seen_helper (take i hs)) + 4 * size (seen_expr (get_or hs i h).body) + 4 ≤ weight (map seen_helper hs)
-weight-place [] i h within = absurd (omega (arith, within))
-weight-place (g ∷ hs) zero h within = omega arith
-weight-place (g ∷ hs) (suc i) h within = let k = weight-place hs i h (omega (arith, within)) in omega (arith, k)
 
 -- ---- the latest helper of a name
 

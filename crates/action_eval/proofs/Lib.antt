@@ -5,19 +5,21 @@ pub mod CostLaws
 pub mod CostParts
 pub mod CostTypes
 pub mod DescLaws
-pub mod EvalLaws
 pub mod FoldLaws
 pub mod FormCases
 pub mod FormLaws
 mod FormRows
+pub mod FrameLaws
 pub mod FunctionLaws
 pub mod HelperLaws
 pub mod KindLaws
+pub mod MachineLaws
 pub mod PlainLaws
 pub mod ReadLaws
 pub mod SeenFormLaws
-pub mod Sizes
 pub mod StatementLaws
+pub mod StepCounts
+pub mod StepLaws
 pub mod TypeLaws
 mod ValueRows
 pub mod WithCostLaws

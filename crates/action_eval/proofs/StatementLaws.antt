@@ -16,18 +16,12 @@ use Rattle.pr_value.specs.declared.value.Value.TheVariants as value
 use Rattle.catalog.specs.Contents.{Catalog}
 use Rattle.descriptor_types.specs.Descriptors.{Layout, Desc, fits, with_value}
 use Rattle.rule_syntax.specs.declared.expr.Stmt as rust
-use Rattle.rule_syntax.specs.declared.parts.Helper as helper
 use Rattle.pr_value.specs.declared.property.Property.{Property}
 use Rattle.rule_syntax.specs.Syntax.{Expr, Stmt, set, copy, Helper, Rules}
-use Rattle.rule_syntax.specs.Seen.{seen_stmt, seen_helper}
+use Rattle.rule_syntax.specs.Seen.{seen_stmt}
 use Rattle.rule_syntax.specs.Typing.{Context, type_of_kind, property_kind, fits_property, is_typed_stmt, signatures_of}
 use Rattle.action_eval.specs.Environments.{Env, IsSound, context_of, scope_of, type_in, are_typed_here, value_here, after}
 use Rattle.action_eval.specs.Meaning.{Scope, desc_in, with_desc_in, functions, value_by, run_one, run}
-use Rattle.action_eval.specs.Names.{seen_vars}
-use Rattle.action_eval.specs.SeenEnv.{seen_env}
-use Rattle.action_eval.specs.declared.env.Env as rust_env
-use Rattle.action_eval.specs.declared.names.Vars.{Vars}
-use Rattle.action_eval.proofs.EvalLaws.{scope_in}
 use Rattle.action_eval.proofs.HelperLaws.{sound-functions}
 use Rattle.action_eval.proofs.KindLaws.{Is, value-is, fits-desc_in}
 use Rattle.action_eval.proofs.TypeLaws.{some-same, is_type-is}
@@ -190,11 +184,3 @@ has_kind-value_here env catalog e t sound typed =
     record { descs = subst (λ (l : Layout). list_all (λ d. fits l d.1) env.descs ≡ true) sound.layout sound.descs; values = refl } typed)
     in
     subst (λ (l : Layout). has_kind t (value_by l (functions l env.rules.helpers catalog) (scope_of env) e) ≡ true) (sym sound.layout) there
-
--- the value that is made over the rules' own helpers and no variables
-pub value-here : (own : rust_env.Env) (hs : List helper.Helper) (catalog : Catalog) (vs : Vars) (e : Expr) → map seen_helper hs ≡ (seen_env own).rules.helpers → seen_vars vs ≡ []
-    → value_by (seen_env own).layout (functions (seen_env own).layout (map seen_helper hs) catalog) (scope_in own vs) e ≡ value_here (seen_env own) catalog e
-value-here own hs catalog vs e same none =
-    let env = seen_env own in
-    ap (λ (gs : List Helper). value_by env.layout (functions env.layout gs catalog) (scope_in own vs) e) same
-    ∙ ap (λ (ws : List (Symbol × Value)). value_by env.layout (functions env.layout env.rules.helpers catalog) (record { descs = env.descs; values = ws }) e) none

@@ -6,8 +6,11 @@ pub mod Environments
 pub mod Folds
 pub mod FormOf
 pub mod Forms
+pub mod Machine
 pub mod Meaning
 pub mod Names
 pub mod SeenEnv
 pub mod SeenForms
+pub mod SeenMachine
+pub mod Steps
 pub mod Types

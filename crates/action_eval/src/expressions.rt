@@ -6,8 +6,8 @@ ghost use Rattle.action_eval.specs.Environments.{IsSound, type_in, value_here};
 ghost use Rattle.action_eval.specs.SeenEnv.{seen_env};
 
 use crate::env::Env;
-use crate::evaluation::eval_in;
-use crate::names::{Names, no_vars};
+use crate::evaluation::evaluate;
+use crate::stepping::Within;
 use catalog::Catalog;
 use pr_value::{Memory, Value};
 use rule_syntax::Expr;
@@ -19,13 +19,11 @@ pub fn eval(alloc: Global, e: &Expr, env: &Env, catalog: &Catalog) -> Result<Val
     ensures value { IfOk result (λ v. v ≡ value_here (seen_env env.now) catalog.now (seen_expr e.now)) }
     ensures kind { IfOk result (λ v. (t : Kind) → IsSound (seen_env env.now) → type_in (seen_env env.now) (seen_expr e.now) ≡ Some t → has_kind t v ≡ true) }
 {
-    let vars = no_vars();
-    let names = Names {
+    let within = Within {
         env,
+        rules: env.rules(),
         catalog,
-        helpers: env.rules().helpers.as_slice(),
-        vars: &vars,
     };
-    let value = eval_in(alloc, e, &names)?;
+    let value = evaluate(alloc, e, &within)?;
     Ok(value)
 }

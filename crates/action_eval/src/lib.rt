@@ -9,12 +9,14 @@ mod env;
 mod evaluation;
 mod expressions;
 mod folds;
+mod frames;
 mod helpers;
 mod laws;
-mod names;
+mod machine;
 mod operators;
 mod reading;
 mod statements;
+mod stepping;
 
 pub use cost_forms::{CostForm, IStep, cost_form, cost_laws};
 pub use env::Env;

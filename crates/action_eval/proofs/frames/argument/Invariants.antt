@@ -1,6 +1,6 @@
 use Rattle.std.proofs.Common.{◌≡◌, drop}
 use Rattle.action_eval.specs.Meaning.{bound, value_in}
-use Rattle.action_eval.proofs.names.argument.Given as goal
+use Rattle.action_eval.proofs.frames.argument.Given as goal
 
 -- what is sought stands among the parameters that are left
 abbrev pub invariant-loop-i : goal.invariant-loop-i

@@ -4,7 +4,7 @@ use Rattle.rule_syntax.specs.declared.parts.Param.{Param}
 use Rattle.action_eval.specs.Builtins.{at}
 use Rattle.action_eval.proofs.FunctionLaws.{ok-value}
 use Rattle.action_eval.proofs.ReadLaws.{bound-here, bound-next}
-use Rattle.action_eval.proofs.names.argument.Goals as goal
+use Rattle.action_eval.proofs.frames.argument.Goals as goal
 
 pub returns-then-eq : goal.returns-then-eq
 returns-then-eq c =
