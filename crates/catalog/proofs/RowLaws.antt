@@ -9,7 +9,7 @@ use Rattle.std.specs.List.{AllZip, Any, AllByRecursion, IsAllAdjacentAnswer, Con
 use Rattle.std.specs.List.Sorted.{IsPermutation, IsSortedBy, IsStrictlySortedBy}
 use Rattle.std.specs.Ordering.{eq_by_cmp, is_eq, is_lt, ordering_reverse}
 use Rattle.std.proofs.lemmas.List.{get_or-map, length-map}
-use Rattle.std.proofs.lemmas.List.Sorted.{Contains-permutation, IsPermutation-map, IsPermutation-sym}
+use Rattle.std.proofs.lemmas.List.Sorted.{Contains-permutation, IsPermutation-map, IsPermutation-sym, IsPermutation-refl, IsPermutation-cons, IsPermutation-trans}
 use Rattle.std.proofs.lemmas.Map.Keys.{IsDistinct-from_sorted, IsDistinct-tail, IsDistinct-IsPermutation, apart_from_distinct, sorted_from_all_adjacent}
 use Rattle.serde_json.specs.View.{view, items_view}
 use Rattle.serde_json.specs.declared.value.Value.{Value as Json}
@@ -20,31 +20,11 @@ use Rattle.pr_value.specs.declared.value.Value.TheVariants as value
 use Rattle.catalog.specs.Contents.{Row, value_at}
 use Rattle.value_json.specs.Errors.{ReadsBy, ReadsEach}
 use Rattle.catalog.specs.Keys.{compare_keys}
-use Rattle.catalog.specs.Tables.{GivesRows}
-use Rattle.catalog.specs.Shape.{row_in, rows_in}
+use Rattle.catalog.specs.Shape.{row_in, rows_in, with_row, with_new_row}
+use Rattle.catalog.proofs.RowOrder.{keys, keys_total, keys_tie, same_keys, same_itself, same_flip, Rise, with_row-moves, rise-with_row, same_rows}
 use Rattle.value_json.specs.declared.part_error.PartError.{PartError}
 use Rattle.value_json.specs.declared.part_error.PartError.TheVariants as part_error
 use Rattle.value_json.proofs.EachLaws.{Any-cases, Any-nil}
-
--- ---- keys
-
-abbrev pub keys : Row → List Symbol
-keys r = r.keys
-
-pub keys_total : IsTotalOrder compare_keys
-keys_total = lists_total nat_list_cmp_total
-
-pub keys_tie : (x y : List Symbol) → same_list x y ≡ eq_by_cmp compare_keys x y
-keys_tie x y = lists_ties _ texts_ties x y
-
-same_keys : (x y : List Symbol) → same_list x y ≡ true → x ≡ y
-same_keys x y e = (pointwise_decides bytes_decides x y).0 e
-
-same_itself : (x : List Symbol) → same_list x x ≡ true
-same_itself x = (pointwise_decides bytes_decides x x).1 refl
-
-same_flip : (x y : List Symbol) → same_list x y ≡ same_list y x
-same_flip x y = (lists_equiv nat_list_eq_equiv).symm x y
 
 -- no two rows have equal keys
 abbrev Differ : List Row → Type 0
@@ -114,17 +94,16 @@ value_at_permuted xs ys moved apart ks =
 -- the rows, if their keys differ
 kept : List Row → Option (List Row)
 kept [] = Some []
-kept (r ∷ rs) = option_and_then (λ us. cond (is_some (value_at us r.keys)) None (Some (r ∷ us))) (kept rs)
+kept (r ∷ rs) = option_and_then (with_new_row r) (kept rs)
 
 rows_in_all : (vs : List Json) (rs : List Row) → AllZip (λ v r. row_in (view v) ≡ Some r) vs rs → rows_in (items_view vs) ≡ kept rs
 unfolding kept
 rows_in_all [] [] all = refl
 rows_in_all [] (r ∷ rs) all = absurd all
 rows_in_all (v ∷ vs) [] all = absurd all
-rows_in_all (v ∷ vs) (r ∷ rs) all =
-    λ i. option_and_then (λ s. option_and_then (λ us. cond (is_some (value_at us s.keys)) None (Some (s ∷ us))) (rows_in_all vs rs all.1 i)) (all.0 i)
+rows_in_all (v ∷ vs) (r ∷ rs) all = λ i. option_and_then (λ s. option_and_then (with_new_row s) (rows_in_all vs rs all.1 i)) (all.0 i)
 
-none_behind : (o : Option Row) → option_and_then (λ (s : Row). option_and_then (λ (us : List Row). cond (is_some (value_at us s.keys)) None (Some (s ∷ us))) None) o ≡ None
+none_behind : (o : Option Row) → option_and_then (λ (s : Row). option_and_then (with_new_row s) None) o ≡ None
 none_behind None = refl
 none_behind (Some r) = refl
 
@@ -132,8 +111,8 @@ rows_in_none : (vs : List Json) → Any (λ v. row_in (view v) ≡ None) vs → 
 rows_in_none [] some = absurd (Any-nil (λ v. row_in (view v) ≡ None) some)
 rows_in_none (v ∷ vs) some =
     elim (Any-cases (λ v. row_in (view v) ≡ None) v vs some) [
-      | inl none ↦ ap (option_and_then (λ s. option_and_then (λ us. cond (is_some (value_at us s.keys)) None (Some (s ∷ us))) (rows_in (items_view vs)))) none
-      | inr later ↦ ap (λ o. option_and_then (λ s. option_and_then (λ us. cond (is_some (value_at us s.keys)) None (Some (s ∷ us))) o) (row_in (view v))) (rows_in_none vs later) ∙ none_behind (row_in (view v))
+      | inl none ↦ ap (option_and_then (λ s. option_and_then (with_new_row s) (rows_in (items_view vs)))) none
+      | inr later ↦ ap (λ o. option_and_then (λ s. option_and_then (with_new_row s) o) (row_in (view v))) (rows_in_none vs later) ∙ none_behind (row_in (view v))
     ]
 
 -- no row has these keys, or one has
@@ -148,33 +127,54 @@ fresh_or_not ks (r ∷ rs) =
       ]
     ] refl
 
-kept_or_not : (rs : List Row) → (kept rs ≡ Some rs) × Differ rs ⊎ (kept rs ≡ None) × ¬ (Differ rs)
-unfolding kept IsDistinct
-kept_or_not [] = inl (refl, tt)
+-- the rows in the order of their keys
+arranged : List Row → List Row
+arranged [] = []
+arranged (r ∷ rs) = with_row r (arranged rs)
+
+arranged-moves : (rs : List Row) → IsPermutation rs (arranged rs)
+unfolding arranged
+arranged-moves [] = IsPermutation-refl []
+arranged-moves (r ∷ rs) = IsPermutation-trans _ (r ∷ arranged rs) _ (IsPermutation-cons r _ _ (arranged-moves rs)) (with_row-moves r (arranged rs))
+
+first_moves : (r : Row) (rs : List Row) → IsPermutation (r ∷ rs) (r ∷ arranged rs)
+first_moves r rs = IsPermutation-cons r _ _ (arranged-moves rs)
+
+kept_or_not : (rs : List Row) → (kept rs ≡ Some (arranged rs)) × Rise (arranged rs) × Differ rs ⊎ (kept rs ≡ None) × ¬ (Differ rs)
+unfolding kept arranged IsDistinct IsStrictlySortedBy
+kept_or_not [] = inl (refl, tt, tt)
 kept_or_not (r ∷ rs) =
-    let with_first = option_and_then (λ (us : List Row). cond (is_some (value_at us r.keys)) None (Some (r ∷ us))) in
+    let told : Bool → Option (List Row) = λ b. cond b None (Some (with_row r (arranged rs))) in
     elim (kept_or_not rs) [
-      | inl all ↦ elim (fresh_or_not r.keys rs) [
-        | inl fresh ↦ inl (ap with_first all.0 ∙ ap (λ b. cond b None (Some (r ∷ rs))) fresh.0, (fresh.1, all.1))
-        | inr taken ↦ inr (ap with_first all.0 ∙ ap (λ b. cond b None (Some (r ∷ rs))) taken.0, λ apart. taken.1 apart.0)
+      | inl all ↦ elim (fresh_or_not r.keys (arranged rs)) [
+        | inl fresh ↦ inl (
+          ap (option_and_then (with_new_row r)) all.0 ∙ ap told fresh.0,
+          rise-with_row r (arranged rs) fresh.1 all.1,
+          differ_permuted (r ∷ arranged rs) (r ∷ rs) (IsPermutation-sym _ _ (first_moves r rs)) (fresh.1, differ_permuted rs (arranged rs) (arranged-moves rs) all.2),
+        )
+        | inr taken ↦ inr (ap (option_and_then (with_new_row r)) all.0 ∙ ap told taken.0, λ apart. taken.1 (differ_permuted (r ∷ rs) (r ∷ arranged rs) (first_moves r rs) apart).0)
       ]
-      | inr none ↦ inr (ap with_first none.0, λ apart. none.1 apart.1)
+      | inr none ↦ inr (ap (option_and_then (with_new_row r)) none.0, λ apart. none.1 apart.1)
     ]
 
 abbrev Says : List Json → List Row → Type 0
 Says vs rs = AllZip (λ v r. row_in (view v) ≡ Some r) vs rs
 
-pub rows_read : (vs : List Json) (xs ys : List Row) → Says vs xs → IsPermutation xs ys → IsStrictlySortedBy compare_keys (map keys ys) → GivesRows (items_view vs) (Some ys)
+pub rows_read : (vs : List Json) (xs ys : List Row) → Says vs xs → IsPermutation xs ys → Rise ys → rows_in (items_view vs) ≡ Some ys
 rows_read vs xs ys all moved up =
     let apart = differ_from_strict ys up in
-    let whole : kept xs ≡ Some xs = elim (kept_or_not xs) [ inl all ↦ all.0 | inr none ↦ absurd (none.1 (differ_permuted ys xs (IsPermutation-sym xs ys moved) apart)) ] in
-    (xs, rows_in_all vs xs all ∙ whole, value_at_permuted xs ys moved apart)
+    elim (kept_or_not xs) [
+      | inl whole ↦
+          let again = IsPermutation-trans (arranged xs) xs ys (IsPermutation-sym xs (arranged xs) (arranged-moves xs)) moved in
+          rows_in_all vs xs all ∙ whole.0 ∙ ap Some (same_rows (arranged xs) ys whole.1 up (λ ks. sym (value_at_permuted (arranged xs) ys again apart ks)))
+      | inr none ↦ absurd (none.1 (differ_permuted ys xs (IsPermutation-sym xs ys moved) apart))
+    ]
 
 pub rows_refused : (vs : List Json) (xs ys : List Row) → Says vs xs → IsPermutation xs ys → ¬ (Differ ys) → rows_in (items_view vs) ≡ None
 rows_refused vs xs ys all moved equal =
-    rows_in_all vs xs all ∙ elim (kept_or_not xs) [ inl all ↦ absurd (equal (differ_permuted xs ys moved all.1)) | inr none ↦ none.0 ]
+    rows_in_all vs xs all ∙ elim (kept_or_not xs) [ inl whole ↦ absurd (equal (differ_permuted xs ys moved whole.2)) | inr none ↦ none.0 ]
 
-pub rows_unread : (vs : List Json) (e : PartError) → ReadsEach (λ (v : Vec Row Global). v.items) (λ v o. row_in (view v) ≡ o) vs (Err e) → ReadsBy (GivesRows (items_view vs)) (Err e)
+pub rows_unread : (vs : List Json) (e : PartError) → ReadsEach (λ (v : Vec Row Global). v.items) (λ v o. row_in (view v) ≡ o) vs (Err e) → ReadsBy (λ o. rows_in (items_view vs) ≡ o) (Err e)
 rows_unread vs part_error.Misshapen some = rows_in_none vs some
 rows_unread vs part_error.Memory some = tt
 

@@ -35,25 +35,11 @@ rows_found ts name o is = ap rows_in_table is ∙ sym (rows_of-find ts name)
 abbrev Says : Entry → Option Table → Type 0
 Says e o = GivesTable (string_bytes e.0) (view e.1) o
 
-chosen : (b : Bool) (rs us ss vs : List Row) (keys : List Symbol) → value_at rs keys ≡ value_at us keys → value_at ss keys ≡ value_at vs keys → value_at (cond b rs ss) keys ≡ value_at (cond b us vs) keys
-chosen true rs us ss vs keys e f = e
-chosen false rs us ss vs keys e f = f
-
-tables_all : (es : List Entry) (ts : List Table) → AllZip (λ e t. Says e (Some t)) es ts → GivesTables (members_view es) (Some ts)
-tables_all [] [] all = ([], refl, λ _ _. refl)
+tables_all : (es : List Entry) (ts : List Table) → AllZip (λ e t. Says e (Some t)) es ts → tables_in (members_view es) ≡ Some ts
+tables_all [] [] all = refl
 tables_all [] (t ∷ ts) all = absurd all
 tables_all (e ∷ es) [] all = absurd all
-tables_all (e ∷ es) (t ∷ ts) all =
-    let n = string_bytes e.0 in
-    let rows = all.0.1.0 in
-    let rest = tables_all es ts all.1 in
-    let said : Table = record { name = n; rows = rows } in (
-      said ∷ rest.0,
-      (λ i. option_and_then (λ u. option_map (λ us. u ∷ us) (rest.1 i)) (all.0.1.1 i)),
-      λ table keys.
-          ap (λ m. value_at (cond (bytes_eq m table) t.rows (rows_of ts table)) keys) all.0.0
-          ∙ chosen (bytes_eq n table) t.rows rows (rows_of ts table) (rows_of rest.0 table) keys (all.0.1.2 keys) (rest.2 table keys),
-    )
+tables_all (e ∷ es) (t ∷ ts) all = λ i. option_and_then (λ u. option_map (λ us. u ∷ us) (tables_all es ts all.1 i)) (all.0.1 i)
 
 tables_none : (es : List Entry) → are_arrays (members_view es) ≡ true → Any (λ e. Says e None) es → tables_in (members_view es) ≡ None
 tables_none [] arrays some = absurd (Any-nil (λ e. Says e None) some)

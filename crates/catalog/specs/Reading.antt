@@ -8,7 +8,8 @@ use Rattle.catalog.specs.declared.error.CatalogPart.{CatalogPart}
 use Rattle.catalog.specs.declared.error.CatalogPart.TheVariants as part
 
 -- nothing is bad and the value is as said, or this is the first bad part, unless memory ran out
-abbrev pub ReadsUnless : {X : Type 0} → Option CatalogPart → (X → Type 0) → Result X CatalogError → Type 0
+abbrev pub ReadsUnless : {X : Type 0} → Option CatalogPart → (X → Type 0) → Result X CatalogError
+    → Type 0
 ReadsUnless bad Said (Ok x) = (bad ≡ None) × Said x
 ReadsUnless bad Said (Err (error.BadShape p)) = bad ≡ Some p
 ReadsUnless bad Said (Err error.NotJson) = ⊥

@@ -25,7 +25,8 @@ pub(crate) fn members_of<T: FromMember>(
     alloc: Global,
     members: &Map<String, Json>,
 ) -> Result<ByName<T>, PartError>
-    ensures { ReadsEach (λ v. v) (λ e o. T.gives (string_bytes e.0) (view e.1) o) members.now.entries result }
+    ensures { ReadsEach (λ v. v)
+        (λ e o. T.gives (string_bytes e.0) (view e.1) o) members.now.entries result }
 {
     let mut read = Vec::new(alloc);
     for (name, member) in members.iter() {

@@ -42,7 +42,8 @@ fn json_of(alloc: Global, text: &[u8]) -> Result<Json, CatalogError>
 /// The files of the member `files`, if there is one.
 fn files_of(alloc: Global, json: Option<&Json>) -> Result<Option<ByName<File>>, CatalogError>
     ensures { let d = option_map (λ j. view j.now) json.entry in
-        ReadsUnless (bad_in_files d) (λ fs. fs ≡ option_and_then (λ f. files_in (members_in f)) d) result }
+        ReadsUnless (bad_in_files d)
+        (λ fs. fs ≡ option_and_then (λ f. files_in (members_in f)) d) result }
 {
     let Some(json) = json else {
         return Ok(None);
@@ -93,7 +94,8 @@ fn catalog_of(alloc: Global, json: &Json) -> Result<Catalog, CatalogError>
 /// `files` and `tables` are passed over, and of members with one name the last counts. The parts of
 /// a text that is no catalog are tried in the order of `CatalogPart`, each over the whole text.
 pub fn read_catalog(alloc: Global, text: &[u8]) -> Result<Catalog, CatalogError>
-    ensures read { IfOk result (λ c. (d : Data) × IsJson text.now d × (first_bad d ≡ None) × Says c d) }
+    ensures read { IfOk result
+        (λ c. (d : Data) × IsJson text.now d × (first_bad d ≡ None) × Says c d) }
     ensures bad_shape { (part : Part) → IsErrOf result (CatalogError.BadShape part)
         → (d : Data) × IsJson text.now d × (first_bad d ≡ Some part) }
     ensures not_json { IsErrOf result CatalogError.NotJson → (d : Data) → IsJson text.now d → ⊥ }

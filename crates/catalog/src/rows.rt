@@ -10,8 +10,7 @@ ghost use Rattle.pr_value.specs.Values.{is_capped};
 ghost use Rattle.catalog.specs.Contents.{value_at};
 ghost use Rattle.value_json.specs.Errors.{ReadsAs, ReadsBy};
 ghost use Rattle.catalog.specs.Keys.{compare_keys};
-ghost use Rattle.catalog.specs.Tables.{GivesRows};
-ghost use Rattle.catalog.specs.Shape.{keys_in, row_in};
+ghost use Rattle.catalog.specs.Shape.{keys_in, row_in, rows_in};
 
 use pr_value::{Memory, Symbol, Value, copy_symbols};
 use serde_json::Value as Json;
@@ -137,7 +136,7 @@ impl Model for Rows {
 impl Rows {
     /// The rows that are the items of an array.
     pub(crate) fn from_items(alloc: Global, items: &[Json]) -> Result<Rows, PartError>
-        ensures { ReadsBy (GivesRows (items_view items.now)) result }
+        ensures { ReadsBy (λ rows. rows_in (items_view items.now) ≡ rows) result }
     {
         let rows = in_order(items_of::<Row>(alloc, items)?)?;
         if !differ(rows.as_slice()) {

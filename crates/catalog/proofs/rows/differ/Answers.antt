@@ -2,7 +2,8 @@ use Rattle.std.proofs.Common.{rules}
 use Rattle.std.specs.Ordering.{is_lt}
 use Rattle.std.proofs.lemmas.Fn.{always_returns_same}
 use Rattle.catalog.specs.Keys.{compare_keys}
-use Rattle.catalog.proofs.RowLaws.{keys, strict_from_answer, equal_from_answer}
+use Rattle.catalog.proofs.RowLaws.{strict_from_answer, equal_from_answer}
+use Rattle.catalog.proofs.RowOrder.{keys}
 use Rattle.catalog.proofs.rows.differ.Goals as goal
 
 pub returns-clause-rise : goal.returns-clause-rise

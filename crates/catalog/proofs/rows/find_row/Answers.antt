@@ -2,7 +2,7 @@ use Rattle.std.proofs.Common.{Ok, Err, length, refl, rules, sym, ◌∙◌}
 use Rattle.std.proofs.lemmas.Fn.{always_returns_same}
 use Rattle.std.proofs.lemmas.Option.{slice_get_read}
 use Rattle.catalog.specs.Keys.{compare_keys}
-use Rattle.catalog.proofs.RowLaws.{keys, keys_tie, keys_total}
+use Rattle.catalog.proofs.RowOrder.{keys, keys_tie, keys_total}
 use Rattle.catalog.proofs.SearchLaws.{find_searched}
 use Rattle.catalog.proofs.rows.find_row.Goals as goal
 

@@ -3,7 +3,7 @@ use Rattle.std.specs.Ordering.{is_lt}
 use Rattle.std.proofs.lemmas.Fn.{always_returns_same}
 use Rattle.std.proofs.lemmas.List.Sorted.{ranks_by}
 use Rattle.catalog.specs.Keys.{compare_keys}
-use Rattle.catalog.proofs.RowLaws.{keys, keys_total}
+use Rattle.catalog.proofs.RowOrder.{keys, keys_total}
 use Rattle.catalog.proofs.rows.in_order.Goals as goal
 
 pub returns : goal.returns

@@ -4,7 +4,8 @@ use Rattle.std.specs.List.Sorted.{IsStrictlySortedBy}
 use Rattle.std.proofs.lemmas.Result.{err_from_is_err_and}
 use Rattle.pr_value.specs.SymbolSets.{same_list}
 use Rattle.catalog.specs.Keys.{compare_keys}
-use Rattle.catalog.proofs.RowLaws.{keys, rows_read, rows_refused, rows_unread}
+use Rattle.catalog.proofs.RowLaws.{rows_read, rows_refused, rows_unread}
+use Rattle.catalog.proofs.RowOrder.{keys}
 use Rattle.catalog.proofs.rows.Rows.from_items.Goals as goal
 
 pub returns-in_err-items_of : goal.returns-in_err-items_of
