@@ -10,6 +10,14 @@ pub fn items<'a>(json: &'a Json, name: &str) -> &'a [Json] {
     }
 }
 
+/// The two strings of an array.
+pub fn pair<'a>(json: &'a Json, what: &'static str) -> Result<(&'a str, &'a str), Trouble> {
+    let [first, second] = array(json) else {
+        return Err(Trouble::Misshapen(what));
+    };
+    Ok((string(first, what)?, string(second, what)?))
+}
+
 pub fn array(json: &Json) -> &[Json] {
     match json.as_array() {
         Some(items) => items.as_slice(),

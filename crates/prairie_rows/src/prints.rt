@@ -1,7 +1,7 @@
 // Rows of rule sets with their printed texts. What is printed reads and prints the same again.
 use crate::members::{items, said_string};
 use crate::report::Report;
-use crate::texts::Texts;
+use crate::texts::{Texts, text_of};
 use crate::trouble::Trouble;
 use pr_value::Text;
 use rule_lex::{LexError, tokens};
@@ -17,22 +17,30 @@ pub fn print_table(
 ) -> Result<(), Trouble> {
     let name = said_string(table, table, "table")?;
     for row in items(table, "rows") {
-        let row_name = said_string(row, table, "row")?;
-        let Some(rules) = row.get("rules") else {
-            return Err(Trouble::Misshapen("rules"));
-        };
-        let text = texts.text(alloc, rules)?;
-        let once = printed(alloc, text.as_bytes())?;
-        let twice = printed(alloc, once.as_slice())?;
-        let is_same = once.as_slice() == twice.as_slice();
-        report.row(name, row_name, is_same, once.as_slice(), twice.as_slice())?;
-        if let Some(json) = row.get("answer") {
-            let wanted = texts.text(alloc, json)?;
-            let is_right = once.as_slice() == wanted.as_bytes();
-            report.row(name, row_name, is_right, wanted.as_bytes(), once.as_slice())?;
-        }
+        print_row(alloc, row, name, texts, report)?;
     }
     Ok(())
+}
+
+fn print_row(
+    alloc: Global,
+    row: &Json,
+    table: &str,
+    texts: &Texts,
+    report: &mut Report,
+) -> Result<(), Trouble> {
+    let name = said_string(row, row, "row")?;
+    let text = text_of(alloc, row, "rules", texts)?;
+    let once = printed(alloc, text.as_bytes())?;
+    let twice = printed(alloc, once.as_slice())?;
+    report.row(table, name, once.as_slice(), twice.as_slice())?;
+    match row.get("answer") {
+        Some(json) => {
+            let wanted = texts.text(alloc, json)?;
+            report.row(table, name, wanted.as_bytes(), once.as_slice())
+        }
+        None => Ok(()),
+    }
 }
 
 /// The printed text of the rule set that a text reads as.

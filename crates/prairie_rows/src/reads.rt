@@ -1,6 +1,6 @@
 // Rows of texts with what reading them comes to. `@` stands before the token of a refusal and is no
 // part of the text; a refused text without it is refused at its end.
-use crate::members::{items, said_string, string};
+use crate::members::{array, items, said_string, string};
 use crate::report::Report;
 use crate::texts::Texts;
 use crate::trouble::Trouble;
@@ -15,28 +15,66 @@ pub fn read_table(
     texts: &Texts,
     report: &mut Report,
 ) -> Result<(), Trouble> {
-    let name = said_string(table, table, "table")?;
-    let comes = said_string(table, table, "comes")?;
-    let is_query = said_string(table, table, "of")? == "query";
+    let asked = Asked::of(table)?;
     let frame = Frame::of(alloc, table, texts)?;
     for row in items(table, "rows") {
         let text = frame.around(alloc, texts.text(alloc, row)?.as_str())?;
         match table.get("words") {
-            Some(_) => {
-                for word in items(table, "words") {
-                    let (one, at) = with_word(alloc, text.as_str(), string(word, "words")?)?;
-                    let came = reading(alloc, is_query, one.as_str())?;
-                    tell(alloc, name, one.as_str(), comes, at, came.as_str(), report)?;
+            Some(words) => {
+                for word in array(words) {
+                    let word = string(word, "words")?;
+                    read_row(alloc, &asked, text.as_str(), word, report)?;
                 }
             }
-            None => {
-                let (one, at) = with_word(alloc, text.as_str(), "")?;
-                let came = reading(alloc, is_query, one.as_str())?;
-                tell(alloc, name, one.as_str(), comes, at, came.as_str(), report)?;
-            }
+            None => read_row(alloc, &asked, text.as_str(), "", report)?,
         }
     }
     Ok(())
+}
+
+/// What a table asks of each of its texts.
+#[derive(Clone, Copy)]
+struct Asked<'a> {
+    table: &'a str,
+    comes: &'a str,
+    is_query: bool,
+}
+
+impl<'a> Asked<'a> {
+    fn of(table: &'a Json) -> Result<Asked<'a>, Trouble> {
+        Ok(Asked {
+            table: said_string(table, table, "table")?,
+            comes: said_string(table, table, "comes")?,
+            is_query: said_string(table, table, "of")? == "query",
+        })
+    }
+
+    /// The answer that is expected of a text that is refused at this offset, if it is.
+    fn wanted(&self, alloc: Global, at: usize) -> Result<String, Trouble> {
+        if self.comes == "read" {
+            let out = String::from_str(alloc, self.comes)?;
+            return Ok(out);
+        }
+        refusal(alloc, self.comes, at)
+    }
+}
+
+fn read_row(
+    alloc: Global,
+    asked: &Asked<'_>,
+    text: &str,
+    word: &str,
+    report: &mut Report,
+) -> Result<(), Trouble> {
+    let (text, at) = with_word(alloc, text, word)?;
+    let came = reading(alloc, asked.is_query, text.as_str())?;
+    let wanted = asked.wanted(alloc, at)?;
+    report.row(
+        asked.table,
+        text.as_str(),
+        wanted.as_bytes(),
+        came.as_bytes(),
+    )
 }
 
 /// What stands around each text of a table.
@@ -123,23 +161,4 @@ fn syntax_text(alloc: Global, error: SyntaxError) -> Result<String, Trouble> {
 fn refusal(alloc: Global, kind: &str, at: usize) -> Result<String, Trouble> {
     let out = format!(in alloc; "{kind} {at}")?;
     Ok(out)
-}
-
-/// Reports a text, by its whole.
-fn tell(
-    alloc: Global,
-    table: &str,
-    text: &str,
-    comes: &str,
-    at: usize,
-    came: &str,
-    report: &mut Report,
-) -> Result<(), Trouble> {
-    let wanted = if comes == "read" {
-        String::from_str(alloc, comes)?
-    } else {
-        refusal(alloc, comes, at)?
-    };
-    let is_right = wanted.as_str() == came;
-    report.row(table, text, is_right, wanted.as_bytes(), came.as_bytes())
 }

@@ -29,17 +29,18 @@ impl Report {
         &mut self,
         table: &str,
         row: &str,
-        is_right: bool,
         wanted: &[u8],
         came: &[u8],
     ) -> Result<(), Trouble> {
-        if is_right {
+        if wanted == came {
             self.right = self.right.saturating_add(1);
             return Ok(());
         }
         self.wrong = self.wrong.saturating_add(1);
-        let wanted = shown(wanted);
-        let came = shown(came);
+        self.tell(table, row, shown(wanted), shown(came))
+    }
+
+    fn tell(&mut self, table: &str, row: &str, wanted: &str, came: &str) -> Result<(), Trouble> {
         let line = format!(in self.alloc; "{table}: {row}: wanted {wanted:?}, came {came:?}\n")?;
         self.lines.push_str(line.as_str())?;
         Ok(())

@@ -22,39 +22,26 @@ pub fn run_table(
         None => "",
     };
     for (i, row) in items(table, "rows").iter().enumerate() {
-        let row_name = match row.get("row") {
-            Some(json) => String::from_str(alloc, string(json, "row")?)?,
-            None => format!(in alloc; "row {i}")?,
-        };
+        let row_name = row_name(alloc, row, i)?;
         let wanted = Wanted::of(alloc, row, table, texts)?;
-        let came = run_row(alloc, row, table, texts)?;
-        let is_right = wanted.is_right(&came);
-        report.row(
-            name,
-            row_name.as_str(),
-            is_right,
-            wanted.shown(alloc)?.as_slice(),
-            came.shown(alloc)?.as_slice(),
-        )?;
+        let came = came(alloc, row, table, texts)?;
+        let came = wanted.part_of(came.as_slice());
+        report.row(name, row_name.as_str(), wanted.line.as_slice(), came)?;
     }
     Ok(())
 }
 
-/// What a run ended with.
-#[derive(Drop)]
-struct Came {
-    status: u64,
-    put: Vec<u8>,
+/// A row's name, or else its number.
+fn row_name(alloc: Global, row: &Json, i: usize) -> Result<String, Trouble> {
+    let name = match row.get("row") {
+        Some(json) => String::from_str(alloc, string(json, "row")?)?,
+        None => format!(in alloc; "row {i}")?,
+    };
+    Ok(name)
 }
 
-impl Came {
-    fn shown(&self, alloc: Global) -> Result<Vec<u8>, Trouble> {
-        shown(alloc, self.status, self.put.as_slice())
-    }
-}
-
-/// A status with a text behind it.
-fn shown(alloc: Global, status: u64, text: &[u8]) -> Result<Vec<u8>, Trouble> {
+/// The line of an answer: the status, and the text behind it.
+fn line(alloc: Global, status: u64, text: &[u8]) -> Result<Vec<u8>, Trouble> {
     let digits = status.to_string(alloc)?;
     let mut out = Vec::new(alloc);
     out.extend_from_slice(digits.as_bytes())?;
@@ -63,76 +50,75 @@ fn shown(alloc: Global, status: u64, text: &[u8]) -> Result<Vec<u8>, Trouble> {
     Ok(out)
 }
 
-/// What a run is to end with.
+/// The line that a row wants.
 #[derive(Drop)]
 struct Wanted {
-    status: u64,
-    text: String,
-    /// The text is only the answer's beginning.
+    line: Vec<u8>,
+    /// It is only the line's beginning.
     begins: bool,
 }
 
 impl Wanted {
     fn of(alloc: Global, row: &Json, table: &Json, texts: &Texts) -> Result<Wanted, Trouble> {
+        match said(row, table, "begins") {
+            Some(text) => Wanted::with_text(alloc, row, table, texts, text, true),
+            None => match said(row, table, "answer") {
+                Some(text) => Wanted::with_text(alloc, row, table, texts, text, false),
+                None => Err(Trouble::Misshapen("answer")),
+            },
+        }
+    }
+
+    fn with_text(
+        alloc: Global,
+        row: &Json,
+        table: &Json,
+        texts: &Texts,
+        text: &Json,
+        begins: bool,
+    ) -> Result<Wanted, Trouble> {
         let Some(status) = said_number(row, table, "status")? else {
             return Err(Trouble::Misshapen("status"));
         };
-        if let Some(begin) = said(row, table, "begins") {
-            return Ok(Wanted {
-                status,
-                text: texts.text(alloc, begin)?,
-                begins: true,
-            });
+        let text = texts.text(alloc, text)?;
+        let line = line(alloc, status, text.as_bytes())?;
+        Ok(Wanted { line, begins })
+    }
+
+    /// As much of a line as this one is compared with.
+    fn part_of<'a>(&self, came: &'a [u8]) -> &'a [u8] {
+        if self.begins {
+            let (begin, _) = came.split_at(came.len().min(self.line.len()));
+            return begin;
         }
-        let Some(whole) = said(row, table, "answer") else {
-            return Err(Trouble::Misshapen("answer"));
-        };
-        Ok(Wanted {
-            status,
-            text: texts.text(alloc, whole)?,
-            begins: false,
-        })
-    }
-
-    fn is_right(&self, came: &Came) -> bool {
-        let put = came.put.as_slice();
-        let is_text = if self.begins {
-            put.starts_with(self.text.as_bytes())
-        } else {
-            put == self.text.as_bytes()
-        };
-        self.status == came.status && is_text
-    }
-
-    fn shown(&self, alloc: Global) -> Result<Vec<u8>, Trouble> {
-        shown(alloc, self.status, self.text.as_bytes())
+        came
     }
 }
 
-fn run_row(alloc: Global, row: &Json, table: &Json, texts: &Texts) -> Result<Came, Trouble> {
+/// The line that a row's run ends with.
+fn came(alloc: Global, row: &Json, table: &Json, texts: &Texts) -> Result<Vec<u8>, Trouble> {
     let words = words_of(alloc, row, table)?;
     let mut shelf = shelf_of(alloc, row, table, texts)?;
+    let mut sink = sink_of(alloc, row, table)?;
+    let status = run(alloc, words.as_slice(), &mut shelf, &mut sink);
+    line(alloc, status as u64, sink.bytes())
+}
+
+/// A sink, which fails where the row says so.
+fn sink_of(alloc: Global, row: &Json, table: &Json) -> Result<MemSink, Trouble> {
     let mut sink = MemSink::new(alloc);
     if let Some(taken) = said_number(row, table, "put_fails_after")? {
         sink.fail_at(1, taken as usize)?;
     }
-    let status = run(alloc, words.as_slice(), &mut shelf, &mut sink);
-    let mut put = Vec::new(alloc);
-    put.extend_from_slice(sink.bytes())?;
-    Ok(Came {
-        status: status as u64,
-        put,
-    })
+    Ok(sink)
 }
 
-/// A shelf with the row's texts under their names.
+/// A shelf with the row's texts under their names, which fails where the row says so.
 fn shelf_of(alloc: Global, row: &Json, table: &Json, texts: &Texts) -> Result<MemShelf, Trouble> {
     let mut shelf = MemShelf::new(alloc);
     for name in FILES {
         if let Some(json) = said(row, table, name) {
-            let text = texts.bytes(alloc, json)?;
-            let bytes = Bytes::new(alloc, text.as_slice())?;
-            shelf.hold(Name::new(alloc, name)?, bytes)?;
+            hold(alloc, name, json, texts, &mut shelf)?;
         }
     }
     if let Some(call) = said_number(row, table, "fetch_fails")? {
@@ -143,21 +129,40 @@ fn shelf_of(alloc: Global, row: &Json, table: &Json, texts: &Texts) -> Result<Me
     Ok(shelf)
 }
 
+fn hold(
+    alloc: Global,
+    name: &str,
+    json: &Json,
+    texts: &Texts,
+    shelf: &mut MemShelf,
+) -> Result<(), Trouble> {
+    let text = texts.bytes(alloc, json)?;
+    let bytes = Bytes::new(alloc, text.as_slice())?;
+    shelf.hold(Name::new(alloc, name)?, bytes)?;
+    Ok(())
+}
+
 /// The row's words, or else the table's, or else those of `plan` over the three texts.
 fn words_of(alloc: Global, row: &Json, table: &Json) -> Result<Vec<Name>, Trouble> {
-    let mut words = Vec::new(alloc);
     match said(row, table, "words") {
-        Some(json) => {
-            for word in array(json) {
-                words.push(Name::new(alloc, string(word, "words")?)?)?;
-            }
-        }
-        None => {
-            words.push(Name::new(alloc, "plan")?)?;
-            for word in FILES {
-                words.push(Name::new(alloc, word)?)?;
-            }
-        }
+        Some(json) => names_in(alloc, array(json)),
+        None => plan_words(alloc),
+    }
+}
+
+fn names_in(alloc: Global, words: &[Json]) -> Result<Vec<Name>, Trouble> {
+    let mut names = Vec::new(alloc);
+    for word in words {
+        names.push(Name::new(alloc, string(word, "words")?)?)?;
+    }
+    Ok(names)
+}
+
+fn plan_words(alloc: Global) -> Result<Vec<Name>, Trouble> {
+    let mut words = Vec::new(alloc);
+    words.push(Name::new(alloc, "plan")?)?;
+    for word in FILES {
+        words.push(Name::new(alloc, word)?)?;
     }
     Ok(words)
 }

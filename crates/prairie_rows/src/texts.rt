@@ -54,8 +54,8 @@ impl Texts {
         Ok(out)
     }
 
-    /// A string, lines, a piece many times, a piece for each number, a named text with changes, or
-    /// the text of a value of JSON.
+    /// A string, lines, a piece many times, a piece for each number, a named text for each number or
+    /// with changes, or the text of a value of JSON.
     fn piece(&self, alloc: Global, json: &Json) -> Result<String, Trouble> {
         if let Some(text) = json.as_str() {
             let text = String::from_str(alloc, text)?;
@@ -66,6 +66,9 @@ impl Texts {
         }
         if let Some(piece) = json.get("each") {
             return for_each(alloc, string(piece, "each")?, json);
+        }
+        if let Some(name) = json.get("numbered") {
+            return numbered(alloc, self.named(string(name, "numbered")?)?, json);
         }
         if let Some(name) = json.get("named") {
             return changed(alloc, self.named(string(name, "named")?)?, json);
@@ -87,6 +90,19 @@ impl Texts {
                 Ok(bytes)
             }
         }
+    }
+}
+
+/// The text that a member of a table spells.
+pub fn text_of(
+    alloc: Global,
+    table: &Json,
+    name: &'static str,
+    texts: &Texts,
+) -> Result<String, Trouble> {
+    match table.get(name) {
+        Some(json) => texts.text(alloc, json),
+        None => Err(Trouble::Misshapen(name)),
     }
 }
 
@@ -156,6 +172,29 @@ fn for_each(alloc: Global, piece: &str, json: &Json) -> Result<String, Trouble> 
         out.push_str(one.as_str())?;
     }
     Ok(out)
+}
+
+/// The text for each number `from` one `to` another, with the number in place of each `#`, and the
+/// number before it in place of each `#-`.
+fn numbered(alloc: Global, text: &str, json: &Json) -> Result<String, Trouble> {
+    let from = bound(json, "from")?;
+    let to = bound(json, "to")?;
+    let mut out = String::new(alloc);
+    for n in from..to.saturating_add(1) {
+        let before = n.saturating_sub(1).to_string(alloc)?;
+        let own = n.to_string(alloc)?;
+        let one = text.replace(alloc, "#-", before.as_str())?;
+        let one = one.as_str().replace(alloc, "#", own.as_str())?;
+        out.push_str(one.as_str())?;
+    }
+    Ok(out)
+}
+
+fn bound(json: &Json, name: &'static str) -> Result<u64, Trouble> {
+    match json.get(name) {
+        Some(n) => number(n, name),
+        None => Err(Trouble::Misshapen(name)),
+    }
 }
 
 /// The text with other pieces in place of pieces that it has.

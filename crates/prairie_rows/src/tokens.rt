@@ -1,5 +1,5 @@
 // Rows of texts with their tokens, each behind its offset.
-use crate::members::{array, items, said_string, string};
+use crate::members::{items, pair, said_string};
 use crate::report::Report;
 use crate::trouble::Trouble;
 use pr_value::{Text, Tokens, push_token};
@@ -10,20 +10,20 @@ use std::alloc::Global;
 pub fn token_table(alloc: Global, table: &Json, report: &mut Report) -> Result<(), Trouble> {
     let name = said_string(table, table, "table")?;
     for row in items(table, "rows") {
-        let [text, wanted] = array(row) else {
-            return Err(Trouble::Misshapen("tokens"));
-        };
-        let text = string(text, "tokens")?;
-        let wanted = string(wanted, "tokens")?;
-        let mut came = Text::new(alloc);
-        match tokens(alloc, text.as_bytes()) {
-            Ok(ts) => push_tokens(alloc, &ts, &mut came)?,
-            Err(_) => came.push_bytes(b"refused")?,
-        }
-        let is_right = came.as_slice() == wanted.as_bytes();
-        report.row(name, text, is_right, wanted.as_bytes(), came.as_slice())?;
+        let (text, wanted) = pair(row, "tokens")?;
+        let came = tokens_text(alloc, text)?;
+        report.row(name, text, wanted.as_bytes(), came.as_slice())?;
     }
     Ok(())
+}
+
+fn tokens_text(alloc: Global, text: &str) -> Result<Text, Trouble> {
+    let mut came = Text::new(alloc);
+    match tokens(alloc, text.as_bytes()) {
+        Ok(ts) => push_tokens(alloc, &ts, &mut came)?,
+        Err(_) => came.push_bytes(b"refused")?,
+    }
+    Ok(came)
 }
 
 fn push_tokens(alloc: Global, ts: &Tokens, out: &mut Text) -> Result<(), Trouble> {

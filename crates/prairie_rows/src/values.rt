@@ -1,8 +1,8 @@
 // Rows of expressions with their values, over helpers and a catalog.
-use crate::members::{array, items, said_string, string};
+use crate::members::{items, pair, said_string};
 use crate::prints::rules_of;
 use crate::report::Report;
-use crate::texts::Texts;
+use crate::texts::{Texts, text_of};
 use crate::trouble::Trouble;
 use action_eval::{Env, eval};
 use catalog::{Catalog, CatalogError, read_catalog};
@@ -24,42 +24,29 @@ pub fn value_table(
     let helpers = text_of(alloc, table, "rules", texts)?;
     let catalog = catalog_of(alloc, text_of(alloc, table, "catalog", texts)?.as_bytes())?;
     for row in items(table, "rows") {
-        let [expression, wanted] = array(row) else {
-            return Err(Trouble::Misshapen("values"));
-        };
-        let expression = string(expression, "values")?;
-        let wanted = string(wanted, "values")?;
-        let before = helpers.as_str();
-        let text = format!(in alloc; "{before} helper probe() : {kind} = {expression};")?;
-        let rules = rules_of(alloc, text.as_bytes())?;
-        let mut came = Text::new(alloc);
-        push_value(alloc, &rules, &catalog, &mut came)?;
-        let is_right = came.as_slice() == wanted.as_bytes();
-        report.row(
-            name,
-            expression,
-            is_right,
-            wanted.as_bytes(),
-            came.as_slice(),
-        )?;
+        let (expression, wanted) = pair(row, "values")?;
+        let came = value(alloc, helpers.as_str(), kind, expression, &catalog)?;
+        report.row(name, expression, wanted.as_bytes(), came.as_slice())?;
     }
     Ok(())
 }
 
-/// The text that a member of a table spells.
-pub fn text_of(
+/// The value of an expression of a kind, or that it is ill typed.
+fn value(
     alloc: Global,
-    table: &Json,
-    name: &'static str,
-    texts: &Texts,
-) -> Result<String, Trouble> {
-    match table.get(name) {
-        Some(json) => texts.text(alloc, json),
-        None => Err(Trouble::Misshapen(name)),
-    }
+    before: &str,
+    kind: &str,
+    expression: &str,
+    catalog: &Catalog,
+) -> Result<Text, Trouble> {
+    let text = format!(in alloc; "{before} helper probe() : {kind} = {expression};")?;
+    let rules = rules_of(alloc, text.as_bytes())?;
+    let mut came = Text::new(alloc);
+    push_value(alloc, &rules, catalog, &mut came)?;
+    Ok(came)
 }
 
-pub fn catalog_of(alloc: Global, text: &[u8]) -> Result<Catalog, Trouble> {
+fn catalog_of(alloc: Global, text: &[u8]) -> Result<Catalog, Trouble> {
     match read_catalog(alloc, text) {
         Ok(catalog) => Ok(catalog),
         Err(CatalogError::Memory) => Err(Trouble::Memory),
@@ -81,10 +68,7 @@ fn push_value(
     let Some(probe) = helpers.last() else {
         return Err(Trouble::Misshapen("a helper"));
     };
-    let context = Context {
-        descs: &[],
-        vars: &[],
-    };
+    let context = Context::new(alloc, &[], &[])?;
     if !are_typed(alloc, properties, helpers)?
         || type_of(alloc, properties, helpers, &context, &probe.body)?.is_none()
     {

@@ -1,7 +1,7 @@
 -- Left sides and queries level by level, and what lists of declarations are empty.
-use Rattle.std.proofs.Common.{◌≡◌, ℕ, ◌+◌, ◌<◌, List, [], ◌∷◌, ◌++◌, length, take, get_or, refl, ap, sym, ◌∙◌, map, arith}
-use Rattle.std.specs.Prelude.{◌&&◌, min}
-use Rattle.std.specs.List.{list_all}
+use Rattle.std.proofs.Common.{◌≡◌, ℕ, ◌+◌, ◌<◌, Bool, true, false, List, [], ◌∷◌, ◌++◌, length, take, get_or, refl, ap, sym, ◌∙◌, map, arith}
+use Rattle.std.specs.Prelude.{◌&&◌, ◌||◌, min}
+use Rattle.std.specs.List.{list_any, list_all}
 use Rattle.std.proofs.lemmas.List.{length-map, take_more}
 use Rattle.std.proofs.lemmas.List.Folds.{list_all-map}
 use Rattle.pr_value.specs.Symbols.{Symbol}
@@ -16,7 +16,7 @@ use Rattle.rule_syntax.specs.declared.query.Setting.{Setting}
 use Rattle.rule_syntax.specs.declared.sides.Left as left
 use Rattle.rule_syntax.specs.declared.sides.Left.{out-Left}
 use Rattle.rule_syntax.specs.declared.sides.LeftIn.TheFolds.{fold_out-Left}
-use Rattle.prairie_top.specs.Conditions.{has_operator}
+use Rattle.rule_types.specs.Conditions.{takes}
 use Rattle.prairie_top.specs.Form.{is_empty, is_stream, is_flat, nodes, nodes_of, fits, all_fit}
 
 -- a left side is its operator over its inputs
@@ -34,6 +34,20 @@ is_empty-map f (x ∷ xs) = refl
 
 pub ruleset seen_sections = (is_empty-map, list_all-map)
 
+pub any_map : {A B : Type 0} (test : B → Bool) (f : A → B) (xs : List A) → list_any test (map f xs) ≡ list_any (λ x. test (f x)) xs
+any_map test f [] = refl
+any_map test f (x ∷ xs) = ap (λ b. test (f x) || b) (any_map test f xs)
+
+-- ---- tests of two parts, by what the first gives
+
+pub both_then : (whole x y a b : Bool) → whole ≡ (x && y) → a ≡ x → a ≡ true → b ≡ y → b ≡ whole
+both_then whole true y a b w e h f = f ∙ sym w
+both_then whole false y a b w e h f = cc
+
+pub both_else : (whole x y a : Bool) → whole ≡ (x && y) → a ≡ x → a ≡ false → a ≡ whole
+both_else whole true y a w e h = cc
+both_else whole false y a w e h = h ∙ sym w
+
 -- ---- queries
 
 pub all_fit-list : (operators : List Operator) (qs : List query.QueryText) → all_fit operators (trees_of (map seen_query qs)) ≡ list_all (λ q. fits operators (seen_query q)) qs
@@ -44,10 +58,10 @@ inputs_of-list : (qs : List query.QueryText) → length (list_of (trees_of (map 
 inputs_of-list qs = ap length (list_of_trees_of (map seen_query qs)) ∙ length-map qs seen_query
 
 pub fits_node : (operators : List Operator) (o : Symbol) (ss : List Setting) (qs : List query.QueryText) →
-    fits operators (seen_query (queries.Node o ss qs)) ≡ (is_empty ss && has_operator operators o (length qs) && list_all (λ q. fits operators (seen_query q)) qs)
+    fits operators (seen_query (queries.Node o ss qs)) ≡ (is_empty ss && takes operators o (length qs) && list_all (λ q. fits operators (seen_query q)) qs)
 fits_node operators o ss qs =
-    ap (fits operators) (seen_node o ss qs) ∙ ap (λ n. is_empty ss && has_operator operators o n && all_fit operators (trees_of (map seen_query qs))) (inputs_of-list qs) ∙
-    ap (λ b. is_empty ss && has_operator operators o (length qs) && b) (all_fit-list operators qs)
+    ap (fits operators) (seen_node o ss qs) ∙ ap (λ n. is_empty ss && takes operators o n && all_fit operators (trees_of (map seen_query qs))) (inputs_of-list qs) ∙
+    ap (λ b. is_empty ss && takes operators o (length qs) && b) (all_fit-list operators qs)
 
 pub nodes_node : (o : Symbol) (ss : List Setting) (qs : List query.QueryText) → nodes (seen_query (queries.Node o ss qs)) ≡ 1 + nodes_of (trees_of (map seen_query qs))
 nodes_node o ss qs = ap nodes (seen_node o ss qs)

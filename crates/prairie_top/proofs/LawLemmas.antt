@@ -7,20 +7,22 @@ use Rattle.pr_value.specs.declared.token.Token.{Token}
 use Rattle.serde_json.specs.Data.{Data}
 use Rattle.serde_json.specs.Find.{get}
 use Rattle.catalog.specs.Contents.{Catalog}
-use Rattle.catalog.specs.Shape.{IsJson, first_bad}
+use Rattle.catalog.specs.Shape.{IsJson, first_bad, OneCatalog}
 use Rattle.rule_lex.specs.Laws.{OneList, NeverBoth}
 use Rattle.rule_lex.specs.declared.error.LexError.TheVariants as lex
 use Rattle.rule_syntax.specs.Syntax.{Rules, Query}
 use Rattle.rule_syntax.specs.Tokens.{Text}
 use Rattle.rule_syntax.specs.DistinctRules.{DistinctRules}
 use Rattle.rule_syntax.specs.DistinctQueries.{DistinctQueries}
+use Rattle.rule_types.specs.Conditions.{refused_by}
 use Rattle.prairie_top.specs.declared.stage.Refusal.{Refusal}
-use Rattle.prairie_top.specs.declared.stage.Refusal.TheVariants.{TooLong, BadByte, NumberTooBig, NameTooLong, BadSyntax, TooDeep, NotJson, BadShape, Unbuilt}
+use Rattle.prairie_top.specs.declared.stage.Refusal.TheVariants.{TooLong, BadByte, NumberTooBig, NameTooLong, BadSyntax, TooDeep, NotJson, BadShape, NotAccepted, Unbuilt}
 use Rattle.prairie_top.specs.declared.status.Status.{Status}
 use Rattle.prairie_top.specs.declared.status.Status.TheVariants as status
+use Rattle.prairie_top.specs.Form.{is_planned}
 use Rattle.prairie_top.specs.Plans.{Best, NoPlan}
 use Rattle.prairie_top.specs.Messages.{no_plan_text, usage_text, memory_text}
-use Rattle.prairie_top.specs.Reading.{HasTokens, HasNoTokens, Grammar, Reads, IsRefusedText, no_tokens, unread, refused, rules_grammar, query_grammar, ReadsCatalog, IsRefusedCatalog}
+use Rattle.prairie_top.specs.Reading.{HasTokens, HasNoTokens, Grammar, Reads, IsRefusedText, no_tokens, unread, refused, IsRefusedRules, rules_grammar, query_grammar, ReadsCatalog, IsRefusedCatalog}
 use Rattle.prairie_top.specs.Run.{Fetches, Puts, Names, Command, plan, Means, ArePlanWords}
 use Rattle.prairie_top.specs.Sources.{AllFetched, IsRead, Chain}
 use Rattle.prairie_top.specs.Sources as sources
@@ -32,6 +34,7 @@ use Rattle.prairie_top.proofs.ChainLaws.{some_is, Settles, One, IsClear, chain_s
 pub record Laws : Type 0 where
   pub lists : OneList
   pub never : NeverBoth
+  pub catalogs : OneCatalog
   pub rules : DistinctRules
   pub queries : DistinctQueries
 
@@ -48,10 +51,22 @@ record IsApart {V : Type 0} (g : Grammar V) : Type 1 where
 true_not_false : (b : _) → b ≡ true → b ≡ false → ⊥
 true_not_false b t f = let clash : true ≡ false = sym t ∙ f in cc clash
 
+rules_not_both : (r : Rules) (refusal : Refusal) → (refused_by r ≡ None) × (is_planned r ≡ true) → IsRefusedRules r refusal → ⊥
+rules_not_both r (NotAccepted kind name) accepts refuses = let clash : None ≡ Some (record { kind = kind; name = name }) = sym accepts.0 ∙ refuses in cc clash
+rules_not_both r Unbuilt accepts refuses = true_not_false _ accepts.1 refuses.1
+rules_not_both r TooLong accepts refuses = refuses
+rules_not_both r (BadByte at) accepts refuses = refuses
+rules_not_both r (NumberTooBig at) accepts refuses = refuses
+rules_not_both r (NameTooLong at) accepts refuses = refuses
+rules_not_both r (BadSyntax at) accepts refuses = refuses
+rules_not_both r (TooDeep at) accepts refuses = refuses
+rules_not_both r NotJson accepts refuses = refuses
+rules_not_both r (BadShape part) accepts refuses = refuses
+
 rules_apart : Laws → IsApart rules_grammar
 rules_apart laws = record {
   distinct = λ v w ts a b. laws.rules v w a.spelled b.spelled (sym a.tokens ∙ b.tokens);
-  apart = λ v refusal accepts refuses. true_not_false _ accepts refuses.1;
+  apart = rules_not_both;
 }
 
 query_apart : Laws → (r : Rules) (c : Catalog) → IsApart (query_grammar r c)
@@ -73,11 +88,13 @@ module _ (laws : Laws) {V : Type 0} (g : Grammar V) (apart : IsApart g) where
   tokens_not_missing (TooDeep at) bytes ts has why = why
   tokens_not_missing NotJson bytes ts has why = why
   tokens_not_missing (BadShape part) bytes ts has why = why
+  tokens_not_missing (NotAccepted kind name) bytes ts has why = why
   tokens_not_missing Unbuilt bytes ts has why = why
 
   read_not_refused : (v : V) (refusal : Refusal) (bytes : List ℕ) → Reads g v bytes → IsRefusedText g refusal bytes → ⊥
   read_not_refused v refusal bytes (ts, has, spells, accepts) (no_tokens why) = tokens_not_missing refusal bytes ts has why
-  read_not_refused v refusal bytes (ts, has, spells, accepts) (unread us syntax has' none) = none v (subst (λ (x : Text). g.Spells v x) (one_text laws.lists bytes ts us has has') spells)
+  read_not_refused v refusal bytes (ts, has, spells, accepts) (unread placed lexes syntax none) =
+      none v (subst (λ (x : Text). g.Spells v x) (one_text laws.lists bytes ts (map (λ (x : Token × ℕ). x.0) placed) has (placed, lexes, refl)) spells)
   read_not_refused v refusal bytes (ts, has, spells, accepts) (refused w us has' spells' refuses) =
       let same = apart.distinct v w us (subst (λ (x : Text). g.Spells v x) (one_text laws.lists bytes ts us has has') spells) spells' in
       apart.apart w refusal (subst g.Accepts same accepts) refuses
@@ -85,6 +102,10 @@ module _ (laws : Laws) {V : Type 0} (g : Grammar V) (apart : IsApart g) where
 -- bytes are the text of one JSON value
 one_json : (bytes : List ℕ) (d e : Data) → IsJson bytes d → IsJson bytes e → e ≡ d
 one_json bytes d e is is' = some_is e d (sym is'.1 ∙ is.1)
+
+-- and of one catalog
+same_catalog : Laws → (c d : Catalog) (bytes : List ℕ) → ReadsCatalog c bytes → ReadsCatalog d bytes → c ≡ d
+same_catalog laws c d bytes (e, json, whole, free, says) (f, json', whole', free', says') = laws.catalogs bytes e f c d json json' says says'
 
 catalog_not_refused : (c : Catalog) (refusal : Refusal) (bytes : List ℕ) → ReadsCatalog c bytes → IsRefusedCatalog refusal bytes → ⊥
 catalog_not_refused c NotJson bytes (d, json, whole, free, says) none = none d json
@@ -100,24 +121,12 @@ catalog_not_refused c (NumberTooBig at) bytes is why = why
 catalog_not_refused c (NameTooLong at) bytes is why = why
 catalog_not_refused c (BadSyntax at) bytes is why = why
 catalog_not_refused c (TooDeep at) bytes is why = why
+catalog_not_refused c (NotAccepted kind name) bytes is why = why
 
 -- ---- the answers to `plan`
 
--- the outcome of a query under rules does not depend on the catalog
-same_outcome : (r : Rules) (c d : Catalog) (q : Query) (o : Outcome) → IsOutcome r c q o → IsOutcome r d q o
-same_outcome r c d q (planned p) best = best
-same_outcome r c d q unplanned none = none
-
-same_decides : (r : Rules) (c d : Catalog) (q : Query) (fetches : Fetches) (came : Status) (text : List ℕ) → Decides r c q fetches came text → Decides r d q fetches came text
-same_decides r c d q fetches came text h = record { outcome = h.outcome; comes = same_outcome r c d q h.outcome h.comes; fetched = h.fetched; status = h.status; is = h.is }
-
-any_catalog : (r : Rules) (c d : Catalog) (names : Names) (fetches : Fetches) (came : Status) (text : List ℕ) → CatalogComes r c names fetches came text → CatalogComes r d names fetches came text
-any_catalog r c d names fetches came text (sources.refused refusal why all is e) = sources.refused refusal why all is e
-any_catalog r c d names fetches came text (sources.failed fails is e) = sources.failed fails is e
-any_catalog r c d names fetches came text (sources.read q told next) = sources.read q told (same_decides r c d q fetches came text next)
-
 -- a best plan and the lack of one exclude each other
-one_outcome : (r : Rules) (c d : Catalog) (q : Query) (o p : Outcome) → IsOutcome r c q o → IsOutcome r d q p → outcome_status o ≡ outcome_status p
+pub one_outcome : (r : Rules) (c d : Catalog) (q : Query) (o p : Outcome) → IsOutcome r c q o → IsOutcome r d q p → outcome_status o ≡ outcome_status p
 one_outcome r c d q (planned x) (planned y) h k = refl
 one_outcome r c d q (planned x) unplanned h k = absurd (k x h.0)
 one_outcome r c d q unplanned (planned y) h k = absurd (h y k.0)
@@ -152,7 +161,7 @@ module _ (laws : Laws) (names : Names) (fetches : Fetches) where
       one_rules : (r : Rules) → One (RulesComes r names fetches) (RulesComes r names fetches)
       one_rules r =
           chain_one (catalog_source names.catalog) fetches (λ c. CatalogComes r c names fetches) files tells catalog_not_refused below
-          (λ c d bytes h k a b x y one other. one_catalog r d a b x y (any_catalog r c d names fetches a x one) other) (catalog_settles r)
+          (λ c d bytes h k a b x y one other. one_catalog r d a b x y (subst (λ (z : Catalog). CatalogComes r z names fetches a x) (same_catalog laws c d bytes h k) one) other) (catalog_settles r)
 
       one_plan : One (PlanComes names fetches) (PlanComes names fetches)
       one_plan =
@@ -166,7 +175,7 @@ module _ (laws : Laws) (names : Names) (fetches : Fetches) where
         let under = chain_complete (rules_source names.rules) fetches (λ s. RulesComes s names fetches) files tells rules_clear still r rules came text
         (λ s bytes a b next. subst (λ (z : Rules). RulesComes z names fetches came text) (sym (one_value laws rules_grammar (rules_apart laws) r s bytes a b)) next) h in
         let with_it = chain_complete (catalog_source names.catalog) fetches (λ d. CatalogComes r d names fetches) files tells catalog_not_refused still c catalog came text
-        (λ d bytes a b next. any_catalog r d c names fetches came text next) under in
+        (λ d bytes a b next. subst (λ (z : Catalog). CatalogComes r z names fetches came text) (sym (same_catalog laws c d bytes a b)) next) under in
         chain_complete (query_source r c names.query) fetches (λ p. Decides r c p fetches) files tells (query_clear r c) still q query came text
         (λ p bytes a b next. subst (λ (z : Query). Decides r c z fetches came text) (sym (one_value laws (query_grammar r c) (query_apart laws r c) q p bytes a b)) next) with_it
 

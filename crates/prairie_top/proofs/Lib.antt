@@ -1,5 +1,5 @@
 mod ChainLaws
-pub mod ConditionLaws
+pub mod ExistsLaws
 pub mod FormLaws
 mod LawLemmas
 mod PlanTextLaws

@@ -1,21 +1,21 @@
 -- What a text reads as, from what its tokens are.
-use Rattle.std.proofs.Common.{◌≡◌, ℕ, List, inl, inr}
+use Rattle.std.proofs.Common.{◌≡◌, ℕ, List, inl, inr, refl, subst}
 use Rattle.std.specs.Prelude.{◌⊎◌, Result, Ok, Err}
-use Rattle.rule_syntax.specs.Tokens.{Text}
-use Rattle.prairie_top.specs.Reading.{HasTokens, HasNoTokens, Grammar, Reads, IsRefusedText, no_tokens, unread, refused}
-use Rattle.prairie_top.specs.Stages.{IsReading, IsOfTokens}
+use Rattle.pr_value.specs.Placed.{Placed, tokens_in}
+use Rattle.prairie_top.specs.Reading.{HasNoTokens, IsSyntax, Grammar, Reads, IsRefusedText, no_tokens, unread, refused}
+use Rattle.prairie_top.specs.Stages.{IsReading, ArePlaced, IsOfTokens}
 use Rattle.prairie_top.specs.declared.stage.Refusal.{Refusal}
 use Rattle.prairie_top.specs.declared.stage.TextError.{TextError}
 use Rattle.prairie_top.specs.declared.stage.TextError.TheVariants as text_error
 
 module _ {V X : Type 0} (g : Grammar V) (view : X → V) (bytes : List ℕ) where
   -- bytes with tokens read as what their tokens are
-  pub read_tokens : (ts : Text) (r : Result X TextError) → HasTokens bytes ts → IsOfTokens g view ts r → IsReading (λ x. Reads g (view x)) (IsRefusedText g) bytes r
-  read_tokens ts (Ok x) has is = (ts, has, is.0, is.1)
-  read_tokens ts (Err text_error.Memory) has is = is
-  read_tokens ts (Err (text_error.Refused refusal)) has is = elim is [
-    | inl none ↦ unread ts none.0 has none.1
-    | inr (v, spells, refuses) ↦ refused v ts has spells refuses
+  pub read_tokens : (ts : Placed) (r : Result X TextError) → ArePlaced ts bytes → IsOfTokens g view ts r → IsReading (λ x. Reads g (view x)) (IsRefusedText g) bytes r
+  read_tokens ts (Ok x) are is = (tokens_in ts, (ts.placed, are.0, refl), is.0, is.1)
+  read_tokens ts (Err text_error.Memory) are is = is
+  read_tokens ts (Err (text_error.Refused refusal)) are is = elim is [
+    | inl none ↦ unread ts.placed are.0 (subst (λ n. IsSyntax ts.placed n refusal) are.1 none.0) none.1
+    | inr (v, spells, refuses) ↦ refused v (tokens_in ts) (ts.placed, are.0, refl) spells refuses
   ]
 
   -- bytes without tokens are refused for that

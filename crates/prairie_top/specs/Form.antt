@@ -3,6 +3,7 @@ use Rattle.std.specs.Prelude.{ℕ, ◌+◌, Bool, true, false, ◌&&◌, nat_le,
 use Rattle.std.specs.List.{list_all}
 use Rattle.std.specs.Str.{bytes_eq}
 use Rattle.pr_value.specs.Symbols.{Symbol}
+use Rattle.pr_value.specs.SymbolSets.{contains}
 use Rattle.pr_value.specs.Trees.{Tree, node, Trees, nil, cons, list_of}
 use Rattle.pr_value.specs.declared.kind.Kind.{Kind}
 use Rattle.pr_value.specs.declared.kind.Kind.TheVariants as kind
@@ -12,7 +13,7 @@ use Rattle.rule_syntax.specs.declared.sides.AlgName.{AlgName}
 use Rattle.rule_syntax.specs.declared.sides.AlgName.TheVariants as alg
 use Rattle.rule_syntax.specs.declared.sides.ImplSide.{ImplSide}
 use Rattle.rule_syntax.specs.Syntax.{Expr, number, truth, read, binary, Stmt, set, LeftLabel, QueryLabel, Operator, IRule, Rules, Query}
-use Rattle.prairie_top.specs.Conditions.{among, has_operator, accepts}
+use Rattle.rule_types.specs.Conditions.{takes}
 
 abbrev pub is_empty : {A : Type 0} → List A → Bool
 is_empty [] = true
@@ -52,7 +53,7 @@ is_true _ = false
 -- a sum of numbers and of the costs of these descriptors
 abbrev pub is_sum : List Symbol → Expr → Bool
 is_sum inputs (number n) = true
-is_sum inputs (read d p) = among inputs d && bytes_eq p cost_name
+is_sum inputs (read d p) = contains inputs d && bytes_eq p cost_name
 is_sum inputs (binary a op.Add b) = is_sum inputs a && is_sum inputs b
 is_sum inputs _ = false
 
@@ -61,19 +62,20 @@ input_descriptors side = map (λ i. i.desc) side.inputs
 
 -- one statement, which sets the algorithm's cost to such a sum over its inputs
 abbrev pub sets_cost : ImplSide → List Stmt → Bool
-sets_cost side (set d p e ∷ []) = bytes_eq d side.desc && bytes_eq p cost_name && is_sum (input_descriptors side) e
+sets_cost side (set d p e ∷ []) =
+    bytes_eq d side.desc && bytes_eq p cost_name && is_sum (input_descriptors side) e
 sets_cost side _ = false
 
 abbrev pub is_plain_rule : IRule → Bool
-is_plain_rule i = is_flat i.left && is_named i.right.alg && is_empty i.body.pre && is_true i.body.test && sets_cost i.right i.body.post
+is_plain_rule i =
+    is_flat i.left && is_named i.right.alg && is_empty i.body.pre && is_true i.body.test &&
+    sets_cost i.right i.body.post
 
 -- the one property, no helpers, T-rules or initializers, and plain I-rules
-abbrev pub is_plain : Rules → Bool
-is_plain r = is_cost_alone r.properties && is_empty r.helpers && is_empty r.trules && list_all (λ o. is_empty o.init) r.operators && list_all is_plain_rule r.irules
-
--- of the form, and accepted
 abbrev pub is_planned : Rules → Bool
-is_planned r = is_plain r && accepts r
+is_planned r =
+    is_cost_alone r.properties && is_empty r.helpers && is_empty r.trules &&
+    list_all (λ o. is_empty o.init) r.operators && list_all is_plain_rule r.irules
 
 abbrev pub most_nodes : ℕ
 most_nodes = 256
@@ -91,7 +93,8 @@ module _ (operators : List Operator) where
   abbrev mutual
     pub fits : Query → Bool
     fits (node (QueryLabel.file f) qs) = true
-    fits (node (QueryLabel.operator o settings) qs) = is_empty settings && has_operator operators o (length (list_of qs)) && all_fit qs
+    fits (node (QueryLabel.operator o settings) qs) =
+        is_empty settings && takes operators o (length (list_of qs)) && all_fit qs
 
     pub all_fit : Trees QueryLabel → Bool
     all_fit nil = true

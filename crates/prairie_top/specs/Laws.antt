@@ -14,11 +14,20 @@ use Rattle.prairie_top.specs.Run.{Fetches, Puts, Names, plan, Means}
 use Rattle.prairie_top.specs.Sources.{IsRead}
 use Rattle.prairie_top.specs.Outcome.{Outcome, IsOutcome, outcome_status, outcome_text, rules_source, catalog_source, query_source, PlanComes, Comes, PutsAll, PutsOnce, Ends}
 
--- over a shelf that tells its files, and whose count is below its end, a run comes to one answer, want of memory apart
+-- over a shelf that tells its files, and whose count is below its end, a run comes to one answer,
+-- want of memory apart
 abbrev pub OneAnswer : Type 0
 OneAnswer =
-    (words : List (List ℕ)) (fetches : Fetches) (files : Files) (one other : Status) (text text' : List ℕ) → fetches.held ≡ Some files → fetches.before < last_count
-    → Comes words fetches one text → Comes words fetches other text' → (one ≡ other) ⊎ ((one ≡ status.Memory) ⊎ (other ≡ status.Memory))
+    (words : List (List ℕ)) (fetches : Fetches) (files : Files) (one other : Status)
+    (text text' : List ℕ) → fetches.held ≡ Some files → fetches.before < last_count
+    → Comes words fetches one text → Comes words fetches other text'
+    → (one ≡ other) ⊎ ((one ≡ status.Memory) ⊎ (other ≡ status.Memory))
+
+-- rules, a catalog and a query come to an outcome, and all their outcomes have one status
+abbrev pub OneExists : Type 0
+OneExists =
+    (r : Rules) (c : Catalog) (q : Query) → (o : Outcome) × IsOutcome r c q o
+    × ((other : Outcome) → IsOutcome r c q other → outcome_status other ≡ outcome_status o)
 
 -- the answer leaves its text no choice
 abbrev pub HasOneText : Status → Type 0
@@ -29,17 +38,26 @@ HasOneText _ = ⊥
 
 -- such an answer has one text
 abbrev pub OneText : Type 0
-OneText = (words : List (List ℕ)) (fetches : Fetches) (came : Status) (text text' : List ℕ) → HasOneText came → Comes words fetches came text → Comes words fetches came text' → text ≡ text'
+OneText = (words : List (List ℕ)) (fetches : Fetches) (came : Status) (text text' : List ℕ)
+    → HasOneText came → Comes words fetches came text → Comes words fetches came text'
+    → text ≡ text'
 
 -- the run puts the outcome whole, or memory is wanting
 abbrev pub EndsPlanned : Rules → Catalog → Query → Puts → Status → Type 0
-EndsPlanned r c q puts ended = (ended ≡ status.Memory) ⊎ ((o : Outcome) × IsOutcome r c q o × (ended ≡ outcome_status o) × PutsAll puts (outcome_text r o))
+EndsPlanned r c q puts ended =
+    (ended ≡ status.Memory)
+    ⊎ ((o : Outcome) × IsOutcome r c q o × (ended ≡ outcome_status o)
+    × PutsAll puts (outcome_text r o))
 
 -- `plan` over texts that are read ends so where no count rises
 abbrev pub Complete : Type 0
 Complete =
-    (words : List (List ℕ)) (names : Names) (fetches : Fetches) (puts : Puts) (files : Files) (r : Rules) (c : Catalog) (q : Query) (ended : Status) → fetches.held ≡ Some files → Means words (plan names)
-    → IsRead (rules_source names.rules) fetches r → IsRead (catalog_source names.catalog) fetches c → IsRead (query_source r c names.query) fetches q → Still fetches.before fetches.after → Still puts.before puts.after
+    (words : List (List ℕ)) (names : Names) (fetches : Fetches) (puts : Puts) (files : Files)
+    (r : Rules) (c : Catalog) (q : Query) (ended : Status) → fetches.held ≡ Some files
+    → Means words (plan names)
+    → IsRead (rules_source names.rules) fetches r → IsRead (catalog_source names.catalog) fetches c
+    → IsRead (query_source r c names.query) fetches q → Still fetches.before fetches.after
+    → Still puts.before puts.after
     → Ends words fetches puts ended → EndsPlanned r c q puts ended
 
 -- bytes are held under the name
@@ -49,12 +67,15 @@ IsHeld files name = (bytes : List ℕ) × (held_under files name ≡ Some bytes)
 -- no fetch of the three texts fails on a shelf that is sure and holds them
 abbrev pub NeverFails : Type 0
 NeverFails =
-    (names : Names) (fetches : Fetches) (files : Files) (text : List ℕ) → fetches.held ≡ Some files → fetches.sure ≡ true → IsHeld files names.rules → IsHeld files names.catalog → IsHeld files names.query
+    (names : Names) (fetches : Fetches) (files : Files) (text : List ℕ) → fetches.held ≡ Some files
+    → fetches.sure ≡ true → IsHeld files names.rules → IsHeld files names.catalog
+    → IsHeld files names.query
     → PlanComes names fetches status.ReadFault text → ⊥
 
 -- over a sink whose count stays below its end and does not rise, no run ends with a write fault
 abbrev pub NeverUnwritten : Type 0
-NeverUnwritten = (puts : Puts) (came ended : Status) (text : List ℕ) → Still puts.before puts.after → PutsOnce puts came text ended → ended ≢ status.WriteFault
+NeverUnwritten = (puts : Puts) (came ended : Status) (text : List ℕ) → Still puts.before puts.after
+    → PutsOnce puts came text ended → ended ≢ status.WriteFault
 
 -- the printed text of a rule set that the grammar spells has the rule set's tokens
 abbrev pub PrintsTokens : Type 0

@@ -1,4 +1,3 @@
-pub mod Conditions
 pub mod Form
 pub mod Laws
 pub mod Messages

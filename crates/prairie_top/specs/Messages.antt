@@ -2,9 +2,11 @@
 use Rattle.std.specs.Prelude.{ℕ, List, ◌++◌, codes}
 use Rattle.std.specs.Fmt.{decimal}
 use Rattle.prairie_top.specs.declared.stage.Refusal.{Refusal}
-use Rattle.prairie_top.specs.declared.stage.Refusal.TheVariants.{TooLong, BadByte, NumberTooBig, NameTooLong, BadSyntax, TooDeep, NotJson, BadShape, Unbuilt}
+use Rattle.prairie_top.specs.declared.stage.Refusal.TheVariants.{TooLong, BadByte, NumberTooBig, NameTooLong, BadSyntax, TooDeep, NotJson, BadShape, NotAccepted, Unbuilt}
 use Rattle.catalog.specs.declared.error.CatalogPart.{CatalogPart}
 use Rattle.catalog.specs.declared.error.CatalogPart.TheVariants as part
+use Rattle.rule_types.specs.declared.refusal.RefusalKind.{RefusalKind}
+use Rattle.rule_types.specs.declared.refusal.RefusalKind.TheVariants as kind
 
 -- a kind, and the offset that it comes with
 abbrev pub at_offset : List ℕ → ℕ → List ℕ
@@ -17,6 +19,20 @@ part_name part.File = codes "File"
 part_name part.Tables = codes "Tables"
 part_name part.Row = codes "Row"
 
+abbrev pub kind_name : RefusalKind → List ℕ
+kind_name kind.TooMany = codes "TooMany"
+kind_name kind.TwoNames = codes "TwoNames"
+kind_name kind.NoCost = codes "NoCost"
+kind_name kind.TwoCosts = codes "TwoCosts"
+kind_name kind.UnknownName = codes "UnknownName"
+kind_name kind.WrongArity = codes "WrongArity"
+kind_name kind.HelperCost = codes "HelperCost"
+kind_name kind.WrongType = codes "WrongType"
+kind_name kind.LeftStreamTwice = codes "LeftStreamTwice"
+kind_name kind.StreamOrder = codes "StreamOrder"
+kind_name kind.TooManyNodes = codes "TooManyNodes"
+kind_name kind.LeftNotFlat = codes "LeftNotFlat"
+
 abbrev pub refusal_name : Refusal → List ℕ
 refusal_name TooLong = codes "TooLong"
 refusal_name (BadByte at) = at_offset (codes "BadByte") at
@@ -26,11 +42,13 @@ refusal_name (BadSyntax at) = at_offset (codes "BadSyntax") at
 refusal_name (TooDeep at) = at_offset (codes "TooDeep") at
 refusal_name NotJson = codes "NotJson"
 refusal_name (BadShape part) = codes "BadShape " ++ part_name part
+refusal_name (NotAccepted kind name) = kind_name kind ++ codes " " ++ name
 refusal_name Unbuilt = codes "Unbuilt"
 
 -- a text, and why it is refused
 abbrev pub refusal_text : List ℕ → Refusal → List ℕ
-refusal_text text refusal = codes "refused " ++ text ++ codes " " ++ refusal_name refusal ++ codes "\n"
+refusal_text text refusal =
+    codes "refused " ++ text ++ codes " " ++ refusal_name refusal ++ codes "\n"
 
 abbrev pub usage_text : List ℕ
 usage_text = codes "usage: plan RULES CATALOG QUERY, certify RULES CATALOG QUERY, check RULES CATALOG QUERY CERTIFICATE, p2v RULES, trial NUMBER\n"

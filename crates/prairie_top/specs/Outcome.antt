@@ -43,31 +43,53 @@ abbrev pub catalog_limit : ℕ
 catalog_limit = 8_388_608
 
 abbrev pub rules_source : List ℕ → Source Rules
-rules_source name = record { name = name; word = codes "rules"; limit = text_limit; Reads = Reads rules_grammar; Refuses = IsRefusedText rules_grammar }
+rules_source name = record {
+  name = name;
+  word = codes "rules";
+  limit = text_limit;
+  Reads = Reads rules_grammar;
+  Refuses = IsRefusedText rules_grammar;
+}
 
 abbrev pub catalog_source : List ℕ → Source Catalog
-catalog_source name = record { name = name; word = codes "catalog"; limit = catalog_limit; Reads = ReadsCatalog; Refuses = IsRefusedCatalog }
+catalog_source name = record {
+  name = name;
+  word = codes "catalog";
+  limit = catalog_limit;
+  Reads = ReadsCatalog;
+  Refuses = IsRefusedCatalog;
+}
 
 abbrev pub query_source : Rules → Catalog → List ℕ → Source Query
-query_source r c name = record { name = name; word = codes "query"; limit = text_limit; Reads = Reads (query_grammar r c); Refuses = IsRefusedText (query_grammar r c) }
+query_source r c name = record {
+  name = name;
+  word = codes "query";
+  limit = text_limit;
+  Reads = Reads (query_grammar r c);
+  Refuses = IsRefusedText (query_grammar r c);
+}
 
 -- ---- the answers to a command, before their text is put
 
 -- no fetch failed, and the answer is that of the outcome
-pub record Decides (r : Rules) (c : Catalog) (q : Query) (fetches : Fetches) (came : Status) (text : List ℕ) : Type 0 where
+pub record Decides (r : Rules) (c : Catalog) (q : Query) (fetches : Fetches) (came : Status)
+    (text : List ℕ) : Type 0 where
   pub outcome : Outcome
   pub comes : IsOutcome r c q outcome
   pub fetched : AllFetched fetches
   pub status : came ≡ outcome_status outcome
   pub is : text ≡ outcome_text r outcome
 
--- what `plan` comes to under rules and a catalog, once they are read: it takes the query, and comes to the outcome
+-- what `plan` comes to under rules and a catalog, once they are read: it takes the query, and comes
+-- to the outcome
 abbrev pub CatalogComes : Rules → Catalog → Names → Fetches → Status → List ℕ → Type 0
-CatalogComes r c names fetches = Chain (query_source r c names.query) fetches (λ q. Decides r c q fetches)
+CatalogComes r c names fetches =
+    Chain (query_source r c names.query) fetches (λ q. Decides r c q fetches)
 
 -- under rules, once they are read: it takes the catalog first
 abbrev pub RulesComes : Rules → Names → Fetches → Status → List ℕ → Type 0
-RulesComes r names fetches = Chain (catalog_source names.catalog) fetches (λ c. CatalogComes r c names fetches)
+RulesComes r names fetches =
+    Chain (catalog_source names.catalog) fetches (λ c. CatalogComes r c names fetches)
 
 -- `plan` takes the rules, the catalog and the query, and then comes to their outcome
 abbrev pub PlanComes : Names → Fetches → Status → List ℕ → Type 0
@@ -77,10 +99,13 @@ abbrev pub CommandComes : Command → Fetches → Status → List ℕ → Type 0
 CommandComes (plan names) = PlanComes names
 
 -- the words mean no command; or memory is wanting; or they mean a command that comes to this answer
-pub data Comes (words : List (List ℕ)) (fetches : Fetches) (came : Status) (text : List ℕ) : Type 0 where
-  unknown : ((command : Command) → Means words command → ⊥) → AllFetched fetches → came ≡ status.Usage → text ≡ usage_text → Comes words fetches came text
+pub data Comes (words : List (List ℕ)) (fetches : Fetches) (came : Status)
+    (text : List ℕ) : Type 0 where
+  unknown : ((command : Command) → Means words command → ⊥) → AllFetched fetches
+      → came ≡ status.Usage → text ≡ usage_text → Comes words fetches came text
   wanting : came ≡ status.Memory → text ≡ memory_text → Comes words fetches came text
-  known : (command : Command) → Means words command → CommandComes command fetches came text → Comes words fetches came text
+  known : (command : Command) → Means words command → CommandComes command fetches came text
+      → Comes words fetches came text
 
 -- ---- a run
 
@@ -88,14 +113,19 @@ pub data Comes (words : List (List ℕ)) (fetches : Fetches) (came : Status) (te
 abbrev pub PutsAll : Puts → List ℕ → Type 0
 PutsAll puts text = (puts.after ≡ puts.before) × Appends puts.written_before text puts.written_after
 
--- the text is put once: that failed, and a prefix is written; or memory was wanting, and nothing is; or all is written
+-- the text is put once: that failed, and a prefix is written; or memory was wanting, and nothing
+-- is; or all is written
 abbrev pub PutsOnce : Puts → Status → List ℕ → Status → Type 0
-PutsOnce puts came text status.WriteFault = Rose puts.before puts.after × AppendsPrefix puts.written_before text puts.written_after
-PutsOnce puts came text status.Memory = ((came ≡ status.Memory) × PutsAll puts text) ⊎ ((puts.after ≡ puts.before) × (puts.written_after ≡ puts.written_before))
+PutsOnce puts came text status.WriteFault =
+    Rose puts.before puts.after × AppendsPrefix puts.written_before text puts.written_after
+PutsOnce puts came text status.Memory =
+    ((came ≡ status.Memory) × PutsAll puts text)
+    ⊎ ((puts.after ≡ puts.before) × (puts.written_after ≡ puts.written_before))
 PutsOnce puts came text ended = (ended ≡ came) × PutsAll puts text
 
 -- a run of these words over this shelf and this sink may end so
-pub record Ends (words : List (List ℕ)) (fetches : Fetches) (puts : Puts) (ended : Status) : Type 0 where
+pub record Ends (words : List (List ℕ)) (fetches : Fetches) (puts : Puts)
+    (ended : Status) : Type 0 where
   pub came : Status
   pub text : List ℕ
   pub comes : Comes words fetches came text

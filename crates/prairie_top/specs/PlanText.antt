@@ -24,7 +24,8 @@ module _ (rules : List IRule) where
     pub node_text : List ℕ → Plan → List ℕ
     node_text indent (node (file name) ps) = indent ++ codes "file " ++ name ++ codes "\n"
     node_text indent (node (algorithm i c) ps) =
-        indent ++ name_in (slice_get rules i) ++ codes " cost=" ++ decimal c ++ codes "\n" ++ inputs_text (indent ++ codes "  ") ps
+        indent ++ name_in (slice_get rules i) ++ codes " cost=" ++ decimal c ++ codes "\n"
+        ++ inputs_text (indent ++ codes "  ") ps
 
     pub inputs_text : List ℕ → Trees PlanLabel → List ℕ
     inputs_text indent nil = []

@@ -59,12 +59,14 @@ operator_of (node (LeftLabel.operator o d) ls) = o
 operator_of (node (LeftLabel.stream n d) ls) = []
 
 module _ (rules : List IRule) where
-  -- the plan implements the tree: a file by itself, an operator by a rule of it over plans for its inputs
+  -- the plan implements the tree: a file by itself, an operator by a rule of it over plans for its
+  -- inputs
   abbrev mutual
     pub Implements : Plan → Query → Type 0
     Implements (node (file name) nil) (node (QueryLabel.file other) nil) = name ≡ other
     Implements (node (algorithm i c) ps) (node (QueryLabel.operator o settings) qs) =
-        (r : IRule) × (slice_get rules i ≡ Some r) × (operator_of r.left ≡ o) × (c ≡ cost_of r (map cost (list_of ps))) × AllImplement ps qs
+        (r : IRule) × (slice_get rules i ≡ Some r) × (operator_of r.left ≡ o)
+        × (c ≡ cost_of r (map cost (list_of ps))) × AllImplement ps qs
     Implements _ _ = ⊥
 
     pub AllImplement : Trees PlanLabel → Trees QueryLabel → Type 0

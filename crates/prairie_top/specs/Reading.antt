@@ -1,5 +1,5 @@
 -- What the bytes of a text read as, and why they are refused for what they say.
-use Rattle.std.specs.Prelude.{◌≡◌, ℕ, true, false, ◌++◌, List, [], ◌∷◌, length, map, codes, Some, None, ◌≢◌, ⊤}
+use Rattle.std.specs.Prelude.{◌≡◌, ℕ, true, false, ◌++◌, List, [], ◌∷◌, length, map, codes, Some, None, ◌≢◌}
 use Rattle.serde_json.specs.Data.{Data}
 use Rattle.serde_json.specs.Find.{get}
 use Rattle.catalog.specs.Contents.{Catalog}
@@ -9,10 +9,12 @@ use Rattle.rule_lex.specs.Lexes.{Lexes, Refuses as LexRefuses}
 use Rattle.rule_lex.specs.declared.error.LexError.TheVariants as lex
 use Rattle.rule_syntax.specs.Syntax.{Rules, Query}
 use Rattle.rule_syntax.specs.Tokens.{Text}
+use Rattle.rule_syntax.specs.Places.{IsPlace}
 use Rattle.rule_syntax.specs.Levels.{IsRules, IsQuery}
 use Rattle.prairie_top.specs.Form.{is_planned, is_planned_query}
 use Rattle.prairie_top.specs.declared.stage.Refusal.{Refusal}
-use Rattle.prairie_top.specs.declared.stage.Refusal.TheVariants.{BadByte, NumberTooBig, NameTooLong, BadSyntax, TooDeep, NotJson, BadShape, Unbuilt}
+use Rattle.prairie_top.specs.declared.stage.Refusal.TheVariants.{BadByte, NumberTooBig, NameTooLong, BadSyntax, TooDeep, NotJson, BadShape, NotAccepted, Unbuilt}
+use Rattle.rule_types.specs.Conditions.{refused_by}
 
 -- the text has these tokens, wherever they stand
 abbrev pub HasTokens : List ℕ → Text → Type 0
@@ -25,11 +27,11 @@ HasNoTokens (NumberTooBig at) bytes = LexRefuses bytes (lex.NumberTooBig at)
 HasNoTokens (NameTooLong at) bytes = LexRefuses bytes (lex.NameTooLong at)
 HasNoTokens _ bytes = ⊥
 
--- the syntax is refused
-abbrev pub IsSyntax : Refusal → Type 0
-IsSyntax (BadSyntax at) = ⊤
-IsSyntax (TooDeep at) = ⊤
-IsSyntax _ = ⊥
+-- the syntax is refused at the offset of one of these tokens, or at the end of the text
+abbrev pub IsSyntax : List (Token × ℕ) → ℕ → Refusal → Type 0
+IsSyntax placed end (BadSyntax at) = IsPlace placed end at
+IsSyntax placed end (TooDeep at) = IsPlace placed end at
+IsSyntax placed end _ = ⊥
 
 -- the values of a grammar: which tokens each has, which are accepted, and why another is refused
 pub record Grammar (V : Type 0) : Type 1 where
@@ -45,15 +47,25 @@ module _ {V : Type 0} (g : Grammar V) where
   -- the bytes have no tokens; or those of no value; or those of a value that is refused
   pub data IsRefusedText (refusal : Refusal) (bytes : List ℕ) : Type 0 where
     no_tokens : HasNoTokens refusal bytes → IsRefusedText refusal bytes
-    unread : (ts : Text) → IsSyntax refusal → HasTokens bytes ts → ((v : V) → g.Spells v ts → ⊥) → IsRefusedText refusal bytes
-    refused : (v : V) (ts : Text) → HasTokens bytes ts → g.Spells v ts → g.Refuses v refusal → IsRefusedText refusal bytes
+    unread : (placed : List (Token × ℕ)) → Lexes bytes placed
+        → IsSyntax placed (length bytes) refusal
+        → ((v : V) → g.Spells v (map (λ p. p.0) placed) → ⊥) → IsRefusedText refusal bytes
+    refused : (v : V) (ts : Text) → HasTokens bytes ts → g.Spells v ts → g.Refuses v refusal
+        → IsRefusedText refusal bytes
 
--- rule sets, of which those are accepted that are planned
+-- a condition of refusal holds of the rule set; or none does, and it is not of the form that is
+-- planned
+abbrev pub IsRefusedRules : Rules → Refusal → Type 0
+IsRefusedRules r (NotAccepted kind name) = refused_by r ≡ Some (record { kind = kind; name = name })
+IsRefusedRules r Unbuilt = (refused_by r ≡ None) × (is_planned r ≡ false)
+IsRefusedRules r _ = ⊥
+
+-- rule sets, of which those are accepted in which no condition holds, and which are planned
 abbrev pub rules_grammar : Grammar Rules
 rules_grammar = record {
   Spells = IsRules;
-  Accepts = λ r. is_planned r ≡ true;
-  Refuses = λ r refusal. (refusal ≡ Unbuilt) × (is_planned r ≡ false);
+  Accepts = λ r. (refused_by r ≡ None) × (is_planned r ≡ true);
+  Refuses = IsRefusedRules;
 }
 
 -- queries, of which those are accepted that are planned with these rules and this catalog
@@ -66,11 +78,14 @@ query_grammar r c = record {
 
 -- the bytes are the JSON text of this catalog, which lists no files
 abbrev pub ReadsCatalog : Catalog → List ℕ → Type 0
-ReadsCatalog c bytes = (d : Data) × IsJson bytes d × (first_bad d ≡ None) × (get (codes "files") d ≡ None) × Says c d
+ReadsCatalog c bytes =
+    (d : Data) × IsJson bytes d × (first_bad d ≡ None) × (get (codes "files") d ≡ None) × Says c d
 
--- the bytes are no JSON; or have this first part that is not as it must be; or are a catalog that lists files
+-- the bytes are no JSON; or have this first part that is not as it must be; or are a catalog that
+-- lists files
 abbrev pub IsRefusedCatalog : Refusal → List ℕ → Type 0
 IsRefusedCatalog NotJson bytes = (d : Data) → IsJson bytes d → ⊥
 IsRefusedCatalog (BadShape part) bytes = (d : Data) × IsJson bytes d × (first_bad d ≡ Some part)
-IsRefusedCatalog Unbuilt bytes = (d : Data) × IsJson bytes d × (first_bad d ≡ None) × (get (codes "files") d ≢ None)
+IsRefusedCatalog Unbuilt bytes =
+    (d : Data) × IsJson bytes d × (first_bad d ≡ None) × (get (codes "files") d ≢ None)
 IsRefusedCatalog _ bytes = ⊥

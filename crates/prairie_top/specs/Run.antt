@@ -2,7 +2,8 @@
 use Rattle.std.specs.Prelude.{◌≡◌, ℕ, Bool, false, ◌==◌, List, [], ◌∷◌, Option, Some, None, codes, ⊤}
 use Rattle.pr_outside.specs.Files.{Files, held_under}
 
--- the shelf: its files, where it tells them, whether it is sure, and its count of faults before and after
+-- the shelf: its files, where it tells them, whether it is sure, and its count of faults before and
+-- after
 pub record Fetches : Type 0 where
   pub held : Option Files
   pub sure : Bool

@@ -18,7 +18,8 @@ pub fn cost_of(rule: &IRule, costs: &[u64]) -> u64
 }
 
 fn set_cost(inputs: &[ImplIn], costs: &[u64], post: &[Stmt]) -> u64
-    ensures { result ≡ plans.set_cost (map (λ i. i.desc) inputs.now) costs.now (map seen_stmt post.now) }
+    ensures { result ≡ plans.set_cost (map (λ i. i.desc) inputs.now) costs.now
+        (map seen_stmt post.now) }
 {
     match post.first() {
         Some(Stmt::Set { value, .. }) if post.len() == 1 => sum_of(inputs, costs, value),
@@ -28,7 +29,8 @@ fn set_cost(inputs: &[ImplIn], costs: &[u64], post: &[Stmt]) -> u64
 
 /// What a sum comes to, from the costs of the inputs.
 fn sum_of(inputs: &[ImplIn], costs: &[u64], e: &Expr) -> u64
-    ensures same { result ≡ plans.sum_of (map (λ i. i.desc) inputs.now) costs.now (seen_expr e.now) }
+    ensures same { result ≡ plans.sum_of (map (λ i. i.desc) inputs.now) costs.now
+        (seen_expr e.now) }
     ensures most { result ≤ CAP }
 {
     match e {

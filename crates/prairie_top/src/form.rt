@@ -1,20 +1,19 @@
 // The rule sets and queries that are planned.
-ghost use Rattle.std.specs.Prelude.{◌≡◌, ◌&&◌, min, map, codes, IfOk};
+ghost use Rattle.std.specs.Prelude.{◌≡◌, ◌&&◌, ◌==◌, min, map, length, codes};
 ghost use Rattle.std.specs.List.{list_all};
 ghost use Rattle.std.specs.Str.{bytes_eq};
+ghost use Rattle.pr_value.specs.SymbolSets.{contains};
 ghost use Rattle.pr_value.specs.Trees.{trees_of};
 ghost use Rattle.rule_syntax.specs.Seen.{seen_expr, seen_stmt, seen_left, seen_left_in, seen_operator, seen_irule, seen_query};
 ghost use Rattle.rule_syntax.specs.SeenRules.{seen_rules};
-ghost use Rattle.prairie_top.specs.Conditions.{among, has_operator};
-ghost use Rattle.prairie_top.specs.Form.{is_empty, cost_name, is_cost, is_cost_alone, is_stream, is_flat, is_named, is_true, is_sum, sets_cost, is_plain_rule, is_plain, is_planned, nodes, nodes_of, fits, is_planned_query};
+ghost use Rattle.rule_types.specs.Conditions.{takes};
+ghost use Rattle.prairie_top.specs.Form.{is_empty, cost_name, is_cost, is_cost_alone, is_stream, is_flat, is_named, is_true, is_sum, sets_cost, is_plain_rule, is_planned, nodes, nodes_of, fits, is_planned_query};
 
-use crate::conditions::{accepts, has_name, has_operator, has_wrong_numbers};
-use pr_value::{Kind, Memory, Symbol};
+use pr_value::{Kind, Symbol};
 use rule_syntax::{
     AlgName, BinOp, Expr, IRule, ImplIn, ImplSide, Left, LeftIn, Operator, Property, QueryText,
     Rules, Setting, Stmt,
 };
-use std::alloc::Global;
 
 /// The most nodes of a query.
 const MOST_NODES: usize = 256;
@@ -88,9 +87,17 @@ fn is_true(e: &Expr) -> bool
     }
 }
 
+/// Whether an input has this descriptor.
+fn has_name(inputs: &[ImplIn], desc: &Symbol) -> bool
+    ensures { result ≡ contains (map (λ i. i.desc) inputs.now) desc.now }
+{
+    inputs.iter().any(|i| *desc == i.desc)
+}
+
 /// Whether it is the cost of one of these inputs.
 fn is_input_cost(inputs: &[ImplIn], desc: &Symbol, property: &Symbol) -> bool
-    ensures { result ≡ (among (map (λ i. i.desc) inputs.now) desc.now && bytes_eq property.now cost_name) }
+    ensures { result ≡
+        (contains (map (λ i. i.desc) inputs.now) desc.now && bytes_eq property.now cost_name) }
 {
     has_name(inputs, desc) && is_cost_name(property)
 }
@@ -160,28 +167,14 @@ fn have_no_initializers(operators: &[Operator]) -> bool
 /// Whether there is the one property, no helpers, T-rules or initializers, and the I-rules are
 /// plain.
 #[tactic(auto, using(crate::proofs::FormLaws::seen_sections))]
-fn is_plain(rules: &Rules) -> bool
-    ensures { result ≡ is_plain (seen_rules rules.now) }
+pub fn is_planned(rules: &Rules) -> bool
+    ensures { result ≡ is_planned (seen_rules rules.now) }
 {
     is_cost_alone(rules.properties.as_slice())
         && is_empty(rules.helpers.as_slice())
         && is_empty(rules.trules.as_slice())
         && have_no_initializers(rules.operators.as_slice())
         && are_plain_rules(rules.irules.as_slice())
-}
-
-/// Whether the rule set is of the form that is planned, and accepted.
-pub fn is_planned(alloc: Global, rules: &Rules) -> Result<bool, Memory>
-    ensures { IfOk result (λ b. b ≡ is_planned (seen_rules rules.now)) }
-{
-    if has_wrong_numbers(rules) {
-        return Ok(false);
-    }
-    if !is_plain(rules) {
-        return Ok(false);
-    }
-    let is_accepted = accepts(alloc, rules)?;
-    Ok(is_accepted)
 }
 
 /// The number of nodes, or one more than may be where there are more.
@@ -206,9 +199,24 @@ fn nodes_of(queries: &[QueryText]) -> usize
     count
 }
 
+fn is_operator(operator: &Operator, name: &Symbol, inputs: usize) -> bool
+    ensures { result ≡
+        (bytes_eq operator.now.name name.now && length operator.now.views == inputs) }
+{
+    operator.name == *name && operator.views.len() == inputs
+}
+
+/// Whether an operator of this name has so many inputs.
+fn has_operator(operators: &[Operator], name: &Symbol, inputs: usize) -> bool
+    ensures { result ≡ takes (map seen_operator operators.now) name.now inputs }
+{
+    operators.iter().any(|o| is_operator(o, name, inputs))
+}
+
 /// Whether it is a use of a declared operator with as many inputs as it declares, and no settings.
 fn is_plain_use(operators: &[Operator], op: &Symbol, settings: &[Setting], inputs: usize) -> bool
-    ensures { result ≡ (is_empty settings.now && has_operator (map seen_operator operators.now) op.now inputs) }
+    ensures { result ≡
+        (is_empty settings.now && takes (map seen_operator operators.now) op.now inputs) }
 {
     is_empty(settings) && has_operator(operators, op, inputs)
 }
@@ -234,7 +242,8 @@ fn fits(operators: &[Operator], query: &QueryText) -> bool
 
 #[cycle(fits)]
 fn all_fit(operators: &[Operator], queries: &[QueryText]) -> bool
-    ensures { result ≡ list_all (λ q. fits (map seen_operator operators.now) (seen_query q)) queries.now }
+    ensures { result ≡ list_all
+        (λ q. fits (map seen_operator operators.now) (seen_query q)) queries.now }
 {
     for query in queries {
         if !fits(operators, query) {

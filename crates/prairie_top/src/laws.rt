@@ -1,18 +1,22 @@
-ghost use Rattle.prairie_top.specs.Laws.{OneAnswer, OneText, Complete, NeverFails, NeverUnwritten, PrintsTokens};
+ghost use Rattle.prairie_top.specs.Laws.{OneExists, OneAnswer, OneText, Complete, NeverFails, NeverUnwritten, PrintsTokens};
 
+use catalog::catalog_laws;
 use rule_lex::token_laws;
 use rule_syntax::spelling_laws;
 
-/// The answers of `run` exclude each other, and some have one text; `plan` over texts that are read
-/// ends with the outcome, or for want of memory, where nothing fails; a shelf that is sure and
-/// holds the texts is no cause of a read fault, and a sink that does not fail of no write fault.
+/// There is a best plan or none at all, and not both. The answers of `run` exclude each other, and
+/// some have one text; `plan` over texts that are read ends with the outcome, or for want of memory,
+/// where nothing fails; a shelf that is sure and holds the texts is no cause of a read fault, and a
+/// sink that does not fail of no write fault.
 pub fn outcome_laws()
+    ensures one_exists { OneExists }
     ensures one_answer { OneAnswer }
     ensures one_text { OneText }
     ensures complete { Complete }
     ensures sure { NeverFails }
     ensures written { NeverUnwritten }
 {
+    catalog_laws();
     token_laws();
     spelling_laws();
 }

@@ -1,7 +1,6 @@
 //! The top call: from words to an answer.
 #![tactic(auto)]
 
-mod conditions;
 mod cost;
 mod form;
 mod laws;

@@ -1,10 +1,11 @@
 ghost use Rattle.std.specs.Prelude.{◌≡◌, ◌++◌, [], codes, OnOk};
-ghost use Rattle.prairie_top.specs.Messages.{at_offset, part_name, refusal_name, refusal_text, fault_text};
+ghost use Rattle.prairie_top.specs.Messages.{at_offset, part_name, kind_name, refusal_name, refusal_text, fault_text};
 
 use crate::stage::Refusal;
 use catalog::CatalogPart;
 use pr_outside::Name;
-use pr_value::{Memory, Text};
+use pr_value::{Memory, Symbol, Text};
+use rule_types::RefusalKind;
 use std::alloc::Global;
 
 /// Makes an empty text that of a refusal.
@@ -43,6 +44,7 @@ fn push_kind(alloc: Global, refusal: Refusal, text: &mut Text) -> Result<(), Mem
             Ok(())
         }
         Refusal::BadShape { part } => push_part(part, text),
+        Refusal::NotAccepted { kind, name } => push_condition(kind, &name, text),
         Refusal::Unbuilt => {
             text.push_bytes(b"Unbuilt")?;
             Ok(())
@@ -67,6 +69,34 @@ fn name_of_part(part: CatalogPart) -> &'static [u8]
         CatalogPart::File => b"File",
         CatalogPart::Tables => b"Tables",
         CatalogPart::Row => b"Row",
+    }
+}
+
+fn push_condition(kind: RefusalKind, name: &Symbol, text: &mut Text) -> Result<(), Memory>
+    ensures { OnOk result (text.new ≡ text.old ++ kind_name kind ++ codes " " ++ name.now) }
+{
+    text.push_bytes(name_of_kind(kind))?;
+    text.push_bytes(b" ")?;
+    text.push_bytes(name.as_slice())?;
+    Ok(())
+}
+
+fn name_of_kind(kind: RefusalKind) -> &'static [u8]
+    ensures { result.now ≡ kind_name kind }
+{
+    match kind {
+        RefusalKind::TooMany => b"TooMany",
+        RefusalKind::TwoNames => b"TwoNames",
+        RefusalKind::NoCost => b"NoCost",
+        RefusalKind::TwoCosts => b"TwoCosts",
+        RefusalKind::UnknownName => b"UnknownName",
+        RefusalKind::WrongArity => b"WrongArity",
+        RefusalKind::HelperCost => b"HelperCost",
+        RefusalKind::WrongType => b"WrongType",
+        RefusalKind::LeftStreamTwice => b"LeftStreamTwice",
+        RefusalKind::StreamOrder => b"StreamOrder",
+        RefusalKind::TooManyNodes => b"TooManyNodes",
+        RefusalKind::LeftNotFlat => b"LeftNotFlat",
     }
 }
 

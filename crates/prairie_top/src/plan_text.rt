@@ -14,7 +14,8 @@ use std::alloc::Global;
 /// Appends the text of the plan: its cost, and a line for each node. After `Memory` the text is
 /// not to be used.
 pub fn push_plan(alloc: Global, rules: &[IRule], plan: &Plan, out: &mut Text) -> Result<(), Memory>
-    ensures { OnOk result (out.new ≡ out.old ++ plan_text (map seen_irule rules.now) (seen_plan plan.now)) }
+    ensures { OnOk result
+        (out.new ≡ out.old ++ plan_text (map seen_irule rules.now) (seen_plan plan.now)) }
 {
     out.push_bytes(b"cost ")?;
     push_number(alloc, plan.cost(), out)?;
@@ -39,7 +40,9 @@ fn push_node(
     plan: &Plan,
     out: &mut Text,
 ) -> Result<(), Memory>
-    ensures { OnOk result (out.new ≡ out.old ++ node_text (map seen_irule rules.now) indent.now (seen_plan plan.now)) }
+    ensures { OnOk result
+        (out.new ≡ out.old
+        ++ node_text (map seen_irule rules.now) indent.now (seen_plan plan.now)) }
 {
     match plan {
         Plan::File(name) => {
@@ -66,7 +69,9 @@ fn push_inputs(
     plans: &[Plan],
     out: &mut Text,
 ) -> Result<(), Memory>
-    ensures { OnOk result (out.new ≡ out.old ++ inputs_text (map seen_irule rules.now) indent.now (trees_of (map seen_plan plans.now))) }
+    ensures { OnOk result
+        (out.new ≡ out.old
+        ++ inputs_text (map seen_irule rules.now) indent.now (trees_of (map seen_plan plans.now))) }
 {
     for plan in plans {
         push_node(alloc, rules, indent, plan, out)?;
@@ -75,7 +80,8 @@ fn push_inputs(
 }
 
 fn push_file(indent: &[u8], name: &Symbol, out: &mut Text) -> Result<(), Memory>
-    ensures { OnOk result (out.new ≡ out.old ++ (indent.now ++ codes "file " ++ name.now ++ codes "\n")) }
+    ensures { OnOk result
+        (out.new ≡ out.old ++ (indent.now ++ codes "file " ++ name.now ++ codes "\n")) }
 {
     out.push_bytes(indent)?;
     out.push_bytes(b"file ")?;
@@ -98,7 +104,10 @@ fn push_algorithm(
     cost: u64,
     out: &mut Text,
 ) -> Result<(), Memory>
-    ensures { OnOk result (out.new ≡ out.old ++ (indent.now ++ name_in (option_map seen_irule (option_copied rule.entry)) ++ codes " cost=" ++ decimal cost ++ codes "\n")) }
+    ensures { OnOk result
+        (out.new ≡ out.old
+        ++ (indent.now ++ name_in (option_map seen_irule (option_copied rule.entry))
+        ++ codes " cost=" ++ decimal cost ++ codes "\n")) }
 {
     out.push_bytes(indent)?;
     push_name(rule, out)?;
@@ -109,7 +118,8 @@ fn push_algorithm(
 }
 
 fn push_name(rule: Option<&IRule>, out: &mut Text) -> Result<(), Memory>
-    ensures { OnOk result (out.new ≡ out.old ++ name_in (option_map seen_irule (option_copied rule.entry))) }
+    ensures { OnOk result
+        (out.new ≡ out.old ++ name_in (option_map seen_irule (option_copied rule.entry))) }
 {
     match rule {
         Some(rule) => match &rule.right.alg {

@@ -1,12 +1,11 @@
 // From texts to rule sets, catalogs and queries that are planned, or why they are refused.
 ghost use Rattle.std.specs.Prelude.{◌≡◌, true, false, map, IfOk, IfErr};
-ghost use Rattle.pr_value.specs.Placed.{tokens_in};
 ghost use Rattle.rule_syntax.specs.Levels.{IsRules, IsQuery};
 ghost use Rattle.rule_syntax.specs.Seen.{seen_query};
 ghost use Rattle.rule_syntax.specs.SeenRules.{seen_rules};
 ghost use Rattle.rule_syntax.specs.Tokens.{Text as SeenText};
-ghost use Rattle.prairie_top.specs.Reading.{HasTokens, HasNoTokens, Reads, IsRefusedText, rules_grammar, query_grammar, ReadsCatalog, IsRefusedCatalog};
-ghost use Rattle.prairie_top.specs.Stages.{IsReading, IsOfTokens};
+ghost use Rattle.prairie_top.specs.Reading.{HasNoTokens, Reads, IsRefusedText, rules_grammar, query_grammar, ReadsCatalog, IsRefusedCatalog};
+ghost use Rattle.prairie_top.specs.Stages.{IsReading, ArePlaced, IsOfTokens, IsAccepting, of_accept_error};
 
 use crate::form::{is_planned, is_planned_query};
 use crate::source::FromText;
@@ -15,11 +14,12 @@ use catalog::{Catalog, CatalogError, read_catalog};
 use pr_value::{Memory, Tokens};
 use rule_lex::{LexError, tokens};
 use rule_syntax::{QueryText, Rules, SyntaxError, read_query, read_rules};
+use rule_types::{AcceptError, Accepted, accept};
 use std::alloc::Global;
 
 /// The tokens of a text, or why it has none.
 fn tokens_of(alloc: Global, text: &[u8]) -> Result<Tokens, TextError>
-    ensures { IsReading (λ ts bytes. HasTokens bytes (tokens_in ts)) HasNoTokens text.now result }
+    ensures { IsReading ArePlaced HasNoTokens text.now result }
 {
     match tokens(alloc, text) {
         Ok(ts) => Ok(ts),
@@ -30,17 +30,41 @@ fn tokens_of(alloc: Global, text: &[u8]) -> Result<Tokens, TextError>
     }
 }
 
-/// The rule set of these tokens, where it is planned.
-fn rules_of(alloc: Global, ts: &Tokens) -> Result<Rules, TextError>
-    ensures { IsOfTokens rules_grammar seen_rules (tokens_in ts.now) result }
+/// The rule set as one that is accepted, where it is planned.
+fn accepted(alloc: Global, rules: Rules) -> Result<Accepted, TextError>
+    ensures { IsAccepting rules_grammar (λ a. seen_rules a.rules) (seen_rules rules) result }
 {
-    match read_rules(alloc, ts) {
-        Ok(rules) => {
-            if is_planned(alloc, &rules)? {
-                return Ok(rules);
+    match accept(alloc, rules) {
+        Ok(accepted) => {
+            if is_planned(accepted.rules()) {
+                return Ok(accepted);
             }
             Err(TextError::Refused(Refusal::Unbuilt))
         }
+        Err(back) => {
+            let (_, error) = back;
+            Err(not_accepted(error))
+        }
+    }
+}
+
+fn not_accepted(error: AcceptError) -> TextError
+    ensures { result ≡ of_accept_error error }
+{
+    match error {
+        AcceptError::Refused { kind, name } => {
+            TextError::Refused(Refusal::NotAccepted { kind, name })
+        }
+        AcceptError::Memory => TextError::Memory,
+    }
+}
+
+/// The rule set of these tokens, where it is accepted and planned.
+fn rules_of(alloc: Global, ts: &Tokens) -> Result<Accepted, TextError>
+    ensures { IsOfTokens rules_grammar (λ a. seen_rules a.rules) ts.now result }
+{
+    match read_rules(alloc, ts) {
+        Ok(rules) => accepted(alloc, rules),
         Err(SyntaxError::BadSyntax { at }) => Err(TextError::Refused(Refusal::BadSyntax { at })),
         Err(SyntaxError::TooDeep { at }) => Err(TextError::Refused(Refusal::TooDeep { at })),
         Err(SyntaxError::Memory) => Err(TextError::Memory),
@@ -49,7 +73,9 @@ fn rules_of(alloc: Global, ts: &Tokens) -> Result<Rules, TextError>
 
 /// The query of these tokens, where it is planned with the rules.
 fn query_of(alloc: Global, under: &Under<'_>, ts: &Tokens) -> Result<QueryText, TextError>
-    ensures { IsOfTokens (query_grammar (seen_rules under.now.rules.now) under.now.catalog.now) seen_query (tokens_in ts.now) result }
+    ensures { IsOfTokens
+        (query_grammar (seen_rules under.now.rules.now) under.now.catalog.now) seen_query
+        ts.now result }
 {
     match read_query(alloc, ts) {
         Ok(query) => {
@@ -64,12 +90,12 @@ fn query_of(alloc: Global, under: &Under<'_>, ts: &Tokens) -> Result<QueryText, 
     }
 }
 
-impl FromText<()> for Rules {
-    ghost reads = { λ _ r. Reads rules_grammar (seen_rules r) };
+impl FromText<()> for Accepted {
+    ghost reads = { λ _ a. Reads rules_grammar (seen_rules a.rules) };
 
     ghost refuses = { λ _. IsRefusedText rules_grammar };
 
-    fn from_text(alloc: Global, _context: &(), text: &[u8]) -> Result<Rules, TextError> {
+    fn from_text(alloc: Global, _context: &(), text: &[u8]) -> Result<Accepted, TextError> {
         match tokens_of(alloc, text) {
             Ok(ts) => rules_of(alloc, &ts),
             Err(error) => Err(error),

@@ -12,7 +12,8 @@ use std::alloc::Global;
 /// A plan of least cost, or none where no plan implements the query.
 #[cycle(search)]
 pub fn best_plan(alloc: Global, rules: &[IRule], query: &QueryText) -> Result<Option<Plan>, Memory>
-    ensures { IfOk result (λ o. IsBest (map seen_irule rules.now) (seen_query query.now) (option_map seen_plan o)) }
+    ensures { IfOk result
+        (λ o. IsBest (map seen_irule rules.now) (seen_query query.now) (option_map seen_plan o)) }
 {
     match query {
         QueryText::File(name) => Ok(Some(Plan::File(name.copy(alloc)?))),
@@ -30,7 +31,9 @@ fn best_inputs(
     rules: &[IRule],
     queries: &[QueryText],
 ) -> Result<Option<Items<Plan>>, Memory>
-    ensures { IfOk result (λ o. AreBest (map seen_irule rules.now) (map seen_query queries.now) (option_map (map seen_plan) o)) }
+    ensures { IfOk result
+        (λ o. AreBest (map seen_irule rules.now) (map seen_query queries.now)
+        (option_map (map seen_plan) o)) }
 {
     let mut plans = Items::new(alloc);
     for query in queries {
@@ -49,7 +52,9 @@ fn best_over(
     op: &Symbol,
     plans: Items<Plan>,
 ) -> Result<Option<Plan>, Memory>
-    ensures { IfOk result (λ o. IsOver (map seen_irule rules.now) op.now (map seen_plan plans) (option_map seen_plan o)) }
+    ensures { IfOk result
+        (λ o. IsOver (map seen_irule rules.now) op.now (map seen_plan plans)
+        (option_map seen_plan o)) }
 {
     let costs = costs_of(alloc, plans.as_slice())?;
     match cheapest(rules, op, costs.as_slice()) {

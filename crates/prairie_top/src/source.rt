@@ -36,7 +36,12 @@ pub fn source<F: Shelf, C, T: FromText<C>>(
     ensures sure { F.sure shelf.new ≡ F.sure shelf.old }
     ensures counted { F.faults shelf.old ≤ F.faults shelf.new }
     ensures had { IsHad (T.reads context.now) (T.refuses context.now)
-        (record { held = F.held shelf.old; sure = F.sure shelf.old; before = F.faults shelf.old; after = F.faults shelf.new })
+        (record {
+          held = F.held shelf.old;
+          sure = F.sure shelf.old;
+          before = F.faults shelf.old;
+          after = F.faults shelf.new;
+        })
         name.now limit result }
 {
     match shelf.fetch(alloc, name, limit) {

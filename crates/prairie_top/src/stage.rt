@@ -1,8 +1,9 @@
 use catalog::CatalogPart;
-use pr_value::Memory;
+use pr_value::{Memory, Symbol};
+use rule_types::RefusalKind;
 
 /// Why a text is refused. Offsets are in bytes from the start of the text.
-#[derive(Clone, Copy, PartialEq, Eq, Debug)]
+#[derive(Debug, Drop)]
 pub enum Refusal {
     /// It has more bytes than such a text may have.
     TooLong,
@@ -20,19 +21,22 @@ pub enum Refusal {
     NotJson,
     /// It is JSON, and this is the first part that is not as it must be.
     BadShape { part: CatalogPart },
+    /// It is a rule set that is not accepted: the first condition that holds, and the name of the
+    /// first declaration in which it does.
+    NotAccepted { kind: RefusalKind, name: Symbol },
     /// It is read, and is not of the form that is planned.
     Unbuilt,
 }
 
 /// Why bytes do not read as a value.
-#[derive(Clone, Copy, PartialEq, Eq, Debug)]
+#[derive(Debug, Drop)]
 pub enum TextError {
     Refused(Refusal),
     Memory,
 }
 
 /// Why a text that was asked for is not had.
-#[derive(Clone, Copy, PartialEq, Eq, Debug)]
+#[derive(Debug, Drop)]
 pub enum Stop {
     Refused(Refusal),
     /// Its fetch failed.

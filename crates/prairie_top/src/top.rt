@@ -18,6 +18,7 @@ use catalog::Catalog;
 use pr_outside::{Name, PutError, Shelf, Sink};
 use pr_value::{Memory, Text};
 use rule_syntax::{QueryText, Rules};
+use rule_types::Accepted;
 use std::alloc::Global;
 
 const USAGE: &[u8] =
@@ -29,8 +30,18 @@ const MEMORY: &[u8] = b"memory\n";
 /// plans the query, and puts the text of the answer in one piece.
 pub fn run<F: Shelf, K: Sink>(alloc: Global, words: &[Name], shelf: &mut F, out: &mut K) -> Status
     ensures answer { Ends words.now
-        (record { held = F.held shelf.old; sure = F.sure shelf.old; before = F.faults shelf.old; after = F.faults shelf.new })
-        (record { written_before = K.written out.old; written_after = K.written out.new; before = K.faults out.old; after = K.faults out.new })
+        (record {
+          held = F.held shelf.old;
+          sure = F.sure shelf.old;
+          before = F.faults shelf.old;
+          after = F.faults shelf.new;
+        })
+        (record {
+          written_before = K.written out.old;
+          written_after = K.written out.new;
+          before = K.faults out.old;
+          after = K.faults out.new;
+        })
         result }
     ensures held { F.held shelf.new ≡ F.held shelf.old }
     ensures sure { F.sure shelf.new ≡ F.sure shelf.old }
@@ -48,7 +59,13 @@ pub fn run<F: Shelf, K: Sink>(alloc: Global, words: &[Name], shelf: &mut F, out:
 fn put<K: Sink>(alloc: Global, came: Status, text: &[u8], out: &mut K) -> Status
     requires { came ≢ Status.WriteFault }
     ensures counted { K.faults out.old ≤ K.faults out.new }
-    ensures put { PutsOnce (record { written_before = K.written out.old; written_after = K.written out.new; before = K.faults out.old; after = K.faults out.new }) came text.now result }
+    ensures put { PutsOnce
+        (record {
+          written_before = K.written out.old;
+          written_after = K.written out.new;
+          before = K.faults out.old;
+          after = K.faults out.new;
+        }) came text.now result }
 {
     match out.put(alloc, text) {
         Ok(()) => came,
@@ -68,7 +85,15 @@ fn answer<F: Shelf>(
     ensures held { F.held shelf.new ≡ F.held shelf.old }
     ensures sure { F.sure shelf.new ≡ F.sure shelf.old }
     ensures counted { F.faults shelf.old ≤ F.faults shelf.new }
-    ensures comes { IfOk result (λ came. Comes words.now (record { held = F.held shelf.old; sure = F.sure shelf.old; before = F.faults shelf.old; after = F.faults shelf.new }) came text.new) }
+    ensures comes { IfOk result
+        (λ came.
+        Comes words.now
+        (record {
+          held = F.held shelf.old;
+          sure = F.sure shelf.old;
+          before = F.faults shelf.old;
+          after = F.faults shelf.new;
+        }) came text.new) }
 {
     match plan_words(words) {
         Some(names) => {
@@ -118,10 +143,15 @@ fn planned<F: Shelf>(
     ensures sure { F.sure shelf.new ≡ F.sure shelf.old }
     ensures counted { F.faults shelf.old ≤ F.faults shelf.new }
     ensures comes { IfOk result (λ came. PlanComes (seen_names names.now)
-        (record { held = F.held shelf.old; sure = F.sure shelf.old; before = F.faults shelf.old; after = F.faults shelf.new }) came text.new) }
+        (record {
+          held = F.held shelf.old;
+          sure = F.sure shelf.old;
+          before = F.faults shelf.old;
+          after = F.faults shelf.new;
+        }) came text.new) }
 {
-    match source::<F, (), Rules>(alloc, shelf, names.rules, TEXT_LIMIT, &()) {
-        Ok(rules) => with_rules(alloc, &rules, names, shelf, text),
+    match source::<F, (), Accepted>(alloc, shelf, names.rules, TEXT_LIMIT, &()) {
+        Ok(accepted) => with_rules(alloc, &accepted.rules, names, shelf, text),
         Err(stop) => stopped(alloc, b"rules", names.rules, stop, text),
     }
 }
@@ -139,7 +169,12 @@ fn with_rules<F: Shelf>(
     ensures sure { F.sure shelf.new ≡ F.sure shelf.old }
     ensures counted { F.faults shelf.old ≤ F.faults shelf.new }
     ensures comes { IfOk result (λ came. RulesComes (seen_rules rules.now) (seen_names names.now)
-        (record { held = F.held shelf.old; sure = F.sure shelf.old; before = F.faults shelf.old; after = F.faults shelf.new }) came text.new) }
+        (record {
+          held = F.held shelf.old;
+          sure = F.sure shelf.old;
+          before = F.faults shelf.old;
+          after = F.faults shelf.new;
+        }) came text.new) }
 {
     match source::<F, (), Catalog>(alloc, shelf, names.catalog, CATALOG_LIMIT, &()) {
         Ok(catalog) => with_catalog(
@@ -168,8 +203,15 @@ fn with_catalog<F: Shelf>(
     ensures held { F.held shelf.new ≡ F.held shelf.old }
     ensures sure { F.sure shelf.new ≡ F.sure shelf.old }
     ensures counted { F.faults shelf.old ≤ F.faults shelf.new }
-    ensures comes { IfOk result (λ came. CatalogComes (seen_rules under.now.rules.now) under.now.catalog.now (seen_names names.now)
-        (record { held = F.held shelf.old; sure = F.sure shelf.old; before = F.faults shelf.old; after = F.faults shelf.new }) came text.new) }
+    ensures comes { IfOk result
+        (λ came.
+        CatalogComes (seen_rules under.now.rules.now) under.now.catalog.now (seen_names names.now)
+        (record {
+          held = F.held shelf.old;
+          sure = F.sure shelf.old;
+          before = F.faults shelf.old;
+          after = F.faults shelf.new;
+        }) came text.new) }
 {
     match source::<F, Under<'_>, QueryText>(alloc, shelf, names.query, TEXT_LIMIT, under) {
         Ok(query) => decided(alloc, under.rules, &query, text),
@@ -185,7 +227,8 @@ fn decided(
     text: &mut Text,
 ) -> Result<Status, Memory>
     requires { text.old ≡ [] }
-    ensures { IfOk result (λ came. IsDecided (seen_rules rules.now) (seen_query query.now) came text.new) }
+    ensures { IfOk result
+        (λ came. IsDecided (seen_rules rules.now) (seen_query query.now) came text.new) }
 {
     match best_plan(alloc, rules.irules.as_slice(), query)? {
         Some(plan) => {

@@ -8,7 +8,8 @@ use pr_outside::Name;
 
 /// The three texts that the words name, where they are `plan RULES CATALOG QUERY`.
 pub fn plan_words(words: &[Name]) -> Option<Names<'_>>
-    ensures { MatchOption result ((names : SeenNames) → ArePlanWords words.now names → ⊥) (λ names. ArePlanWords words.now (seen_names names)) }
+    ensures { MatchOption result ((names : SeenNames) → ArePlanWords words.now names → ⊥)
+        (λ names. ArePlanWords words.now (seen_names names)) }
 {
     match words {
         [command, rules, catalog, query] => {

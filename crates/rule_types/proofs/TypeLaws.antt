@@ -6,11 +6,11 @@ use Rattle.rule_syntax.specs.Seen.{seen_expr, exprs_of}
 use Rattle.rule_syntax.specs.declared.expr.Expr as rust
 use Rattle.rule_types.specs.Scopes.{types_in}
 use Rattle.rule_types.specs.declared.context.Scope.{Scope}
-use Rattle.rule_types.specs.declared.context.Names.{Names}
+use Rattle.rule_types.specs.declared.folds.Folds.{Folds}
 
 -- the types of these expressions
-abbrev pub types_at : Scope → Names → List rust.Expr → Option (List Kind)
-types_at scope names es = types_in scope names (exprs_of (map seen_expr es))
+abbrev pub types_at : Scope → Folds → List rust.Expr → Option (List Kind)
+types_at scope folds es = types_in scope folds (exprs_of (map seen_expr es))
 
 -- the types so far, before those of the rest
 abbrev pub with_rest : List Kind → Option (List Kind) → Option (List Kind)

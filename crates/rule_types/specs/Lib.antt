@@ -1,2 +1,9 @@
+pub mod Acceptance
+pub mod BuiltinCounts
+pub mod Conditions
 pub mod Contexts
+pub mod Declarations
 pub mod Scopes
+pub mod SeenDeclarations
+pub mod SeenUses
+pub mod Uses

@@ -16,10 +16,7 @@ fn is_typed_helper(
 ) -> Result<bool, Memory>
     ensures { IfOk result (λ b. b ≡ is_type (type_of_kind helper.now.result) (type_of properties.now (signatures_of (map seen_helper earlier.now)) (params_context helper.now.params) (seen_expr helper.now.body))) }
 {
-    let context = Context {
-        descs: &[],
-        vars: helper.params.as_slice(),
-    };
+    let context = Context::new(alloc, &[], helper.params.as_slice())?;
     let body = type_of(alloc, properties, earlier, &context, &helper.body)?;
     Ok(is_type(type_of_kind(helper.result), body))
 }

@@ -7,7 +7,7 @@ ghost use Rattle.rule_types.specs.Contexts.{seen_context};
 use crate::context::Context;
 use crate::names::property_kind;
 use crate::typing::type_of;
-use pr_value::{Kind, Memory, Property, contains};
+use pr_value::{Kind, Memory, Property};
 use rule_syntax::{Helper, Stmt, is_type, type_of_kind};
 use std::alloc::Global;
 
@@ -38,11 +38,9 @@ pub fn is_typed_stmt(
         } => {
             let value = type_of(alloc, properties, helpers, context, value)?;
             let declared = property_kind(properties, property);
-            Ok(contains(context.descs, desc) && fits_property(declared, value))
+            Ok(context.has_desc(desc) && fits_property(declared, value))
         }
-        Stmt::Copy { to, from } => {
-            Ok(contains(context.descs, to) && contains(context.descs, from))
-        }
+        Stmt::Copy { to, from } => { Ok(context.has_desc(to) && context.has_desc(from)) }
     }
 }
 

@@ -5,7 +5,8 @@ ghost use Rattle.rule_types.specs.Contexts.{seen_context};
 ghost use Rattle.rule_types.specs.Scopes.{type_in, types_in};
 
 use crate::calls::call_type;
-use crate::context::{Context, Names, Scope};
+use crate::context::{Context, Scope};
+use crate::folds::Folds;
 use crate::names::{read_type, var_type};
 use crate::operators::{binary_type, fold_type, number_type, of_symbols};
 use pr_value::{Kind, Memory, Property};
@@ -13,30 +14,30 @@ use rule_syntax::{Expr, Helper};
 use std::alloc::Global;
 
 #[cycle(typing)]
-fn type_in(alloc: Global, scope: &Scope, names: &Names, e: &Expr) -> Result<Option<Kind>, Memory>
-    ensures { IfOk result (λ t. t ≡ type_in scope.now names.now (seen_expr e.now)) }
+fn type_in(alloc: Global, scope: &Scope, folds: &Folds, e: &Expr) -> Result<Option<Kind>, Memory>
+    ensures { IfOk result (λ t. t ≡ type_in scope.now folds.now (seen_expr e.now)) }
 {
     match e {
         Expr::Number(n) => Ok(number_type(*n)),
         Expr::Truth(_) => Ok(Some(Kind::Truth)),
         Expr::Sym(_) => Ok(Some(Kind::Symbol)),
         Expr::SetOf(members) => {
-            let types = types_in(alloc, scope, names, members.as_slice())?;
+            let types = types_in(alloc, scope, folds, members.as_slice())?;
             Ok(of_symbols(Kind::Set, types))
         }
         Expr::ListOf(members) => {
-            let types = types_in(alloc, scope, names, members.as_slice())?;
+            let types = types_in(alloc, scope, folds, members.as_slice())?;
             Ok(of_symbols(Kind::List, types))
         }
-        Expr::Var(x) => Ok(var_type(names, x)),
+        Expr::Var(x) => Ok(var_type(scope, folds, x)),
         Expr::Read { desc, property } => Ok(read_type(scope, desc, property)),
         Expr::Call { name, args } => {
-            let types = types_in(alloc, scope, names, args.as_slice())?;
+            let types = types_in(alloc, scope, folds, args.as_slice())?;
             Ok(call_type(scope.helpers, name, types))
         }
         Expr::Binary { left, op, right } => {
-            let left = type_in(alloc, scope, names, left.get())?;
-            let right = type_in(alloc, scope, names, right.get())?;
+            let left = type_in(alloc, scope, folds, left.get())?;
+            let right = type_in(alloc, scope, folds, right.get())?;
             Ok(binary_type(*op, left, right))
         }
         Expr::Fold {
@@ -45,10 +46,10 @@ fn type_in(alloc: Global, scope: &Scope, names: &Names, e: &Expr) -> Result<Opti
             over,
             body,
         } => {
-            let over = type_in(alloc, scope, names, over.get())?;
-            let within = Names::Member {
+            let over = type_in(alloc, scope, folds, over.get())?;
+            let within = Folds::Within {
                 name,
-                others: &*names,
+                others: &*folds,
             };
             let body = type_in(alloc, scope, &within, body.get())?;
             Ok(fold_type(*fold, over, body))
@@ -60,14 +61,14 @@ fn type_in(alloc: Global, scope: &Scope, names: &Names, e: &Expr) -> Result<Opti
 fn types_in(
     alloc: Global,
     scope: &Scope,
-    names: &Names,
+    folds: &Folds,
     es: &[Expr],
 ) -> Result<Option<Vec<Kind>>, Memory>
-    ensures { IfOk result (λ ts. option_map (λ v. v.items) ts ≡ types_in scope.now names.now (exprs_of (map seen_expr es.now))) }
+    ensures { IfOk result (λ ts. option_map (λ v. v.items) ts ≡ types_in scope.now folds.now (exprs_of (map seen_expr es.now))) }
 {
     let mut types = Vec::with_capacity(alloc, es.len())?;
     for e in es {
-        match type_in(alloc, scope, names, e)? {
+        match type_in(alloc, scope, folds, e)? {
             Some(kind) => types.push(kind)?,
             None => return Ok(None),
         }
@@ -88,8 +89,8 @@ pub fn type_of(
     let scope = Scope {
         properties,
         helpers,
-        descs: context.descs,
+        context,
     };
-    let kind = type_in(alloc, &scope, &Names::Params(context.vars), e)?;
+    let kind = type_in(alloc, &scope, &Folds::Outside, e)?;
     Ok(kind)
 }

@@ -1,5 +1,6 @@
 use Rattle.std.proofs.Common.{List, ℕ}
 use Rattle.rule_syntax.specs.SeenRules.{seen_rules}
+use Rattle.rule_types.specs.declared.accepted.Accepted.{Accepted}
 use Rattle.prairie_top.specs.Outcome.{RulesComes, PlanComes, rules_source}
 use Rattle.prairie_top.specs.Reading.{Reads, rules_grammar}
 use Rattle.prairie_top.specs.Run.{Fetches}
@@ -13,7 +14,7 @@ use Rattle.prairie_top.proofs.top.planned.Goals as goal
 pub returns-in-Ok-clause-comes : goal.returns-in-Ok-clause-comes
 returns-in-Ok-clause-comes g c =
     let names = seen_names c.args.names.now in
-    let r = seen_rules c.in-Ok.rules in
+    let r = seen_rules c.in-Ok.accepted.rules in
     let had = c.in-Ok.ensures.had in
     let later : Fetches = record { held = g.F.Shelf.held c.source.new.shelf; sure = g.F.Shelf.sure c.source.new.shelf; before = g.F.Shelf.faults c.source.new.shelf; after = g.F.Shelf.faults c.with_rules.new.shelf } in
     let whole : Fetches = record { held = g.F.Shelf.held c.args.shelf.now; sure = g.F.Shelf.sure c.args.shelf.now; before = g.F.Shelf.faults c.args.shelf.now; after = g.F.Shelf.faults c.with_rules.new.shelf } in
@@ -27,5 +28,5 @@ returns-in-Err-clause-comes g c =
     let whole : Fetches = record { held = g.F.Shelf.held c.args.shelf.now; sure = g.F.Shelf.sure c.args.shelf.now; before = g.F.Shelf.faults c.args.shelf.now; after = g.F.Shelf.faults c.source.new.shelf } in
     let source = rules_source names.rules in
     ok_maps (λ (came : Status). IsStopped source.word source.name c.in-Err.stop came c.stopped.new.text) (λ (came : Status). PlanComes names whole came c.stopped.new.text) c.stopped.result
-    (λ came. stopped_chain source (λ r. Reads rules_grammar (seen_rules r)) whole (λ s. RulesComes s names whole) c.source.result c.in-Err.stop came c.stopped.new.text c.in-Err.is c.source.ensures.had)
+    (λ came. stopped_chain source (λ (a : Accepted). Reads rules_grammar (seen_rules a.rules)) whole (λ s. RulesComes s names whole) c.source.result c.in-Err.stop came c.stopped.new.text c.in-Err.is c.source.ensures.had)
     c.stopped.ensures

@@ -1,0 +1,9 @@
+use Rattle.rule_syntax.specs.SeenRules.{seen_rules}
+use Rattle.rule_types.specs.declared.accepted.Accepted.{Accepted}
+use Rattle.prairie_top.specs.Reading.{rules_grammar}
+use Rattle.prairie_top.proofs.ReadingLaws.{read_tokens}
+use Rattle.prairie_top.proofs.reading.AcceptedFromTextUnit.from_text.Goals as goal
+
+pub returns-in-Ok : goal.returns-in-Ok
+returns-in-Ok c =
+    read_tokens rules_grammar (λ (a : Accepted). seen_rules a.rules) c.args.text.now c.in-Ok.ts c.rules_of.result c.in-Ok.ensures c.rules_of.ensures

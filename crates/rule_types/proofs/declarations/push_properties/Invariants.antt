@@ -1,0 +1,9 @@
+use Rattle.std.proofs.Common.{◌≡◌, ◌++◌, take, map}
+use Rattle.rule_types.specs.Declarations.{placed, property}
+use Rattle.rule_types.specs.SeenDeclarations.{seen_declaration}
+use Rattle.rule_types.proofs.declarations.push_properties.Given as goal
+
+abbrev pub invariant-loop-i : goal.invariant-loop-i
+invariant-loop-i l =
+    map seen_declaration l.out.items
+    ≡ map seen_declaration l.initial.out.items ++ map property (placed (take l.i l.properties))

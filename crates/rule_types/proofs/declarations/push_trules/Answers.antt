@@ -1,0 +1,11 @@
+use Rattle.std.proofs.Common.{map, refl, arith}
+use Rattle.rule_syntax.specs.Seen.{seen_trule}
+use Rattle.rule_types.specs.Declarations.{trule}
+use Rattle.rule_types.specs.SeenDeclarations.{seen_declaration}
+use Rattle.rule_types.proofs.PlacedLaws.{pushed-seen}
+use Rattle.rule_types.proofs.declarations.push_trules.Goals as goal
+
+pub loop-i-preserved : goal.loop-i-preserved
+loop-i-preserved c =
+    pushed-seen seen_trule trule seen_declaration c.args.trules.now c.loop-i.i c.index-trules-i.result (map seen_declaration c.args.out.now.items)
+    c.loop-i.out.items c.push.new.self.items _ (omega arith) c.index-trules-i.is c.loop-i.invariant c.in_ok-push.ensures.items refl

@@ -1,0 +1,12 @@
+use Rattle.std.proofs.Common.{◌≡◌, drop, map}
+use Rattle.pr_value.specs.Trees.{trees_of}
+use Rattle.rule_syntax.specs.Seen.{seen_left_in}
+use Rattle.rule_types.specs.Uses.{any_nodes}
+use Rattle.rule_types.proofs.sides.+any_left.Given as goal
+
+-- the rest decides
+abbrev pub invariant-any_left_ins-loop-input : goal.invariant-any_left_ins-loop-input
+invariant-any_left_ins-loop-input g l =
+    let asked = g.Q.LeftQuestion.asked l.question in
+    any_nodes asked (trees_of (map seen_left_in (drop l.input-index l.inputs)))
+    ≡ any_nodes asked (trees_of (map seen_left_in l.inputs))

@@ -1,0 +1,43 @@
+ghost use Rattle.std.specs.Prelude.{◌≡◌, None, IfOk, IfErr};
+ghost use Rattle.rule_syntax.specs.SeenRules.{seen_rules};
+ghost use Rattle.rule_types.specs.Acceptance.{IsTold};
+ghost use Rattle.rule_types.specs.Conditions as spec;
+
+use crate::accepted::Accepted;
+use crate::refusal::{RefusalKind, Refused};
+use crate::refusing::refused_by;
+use pr_value::{Memory, Symbol};
+use rule_syntax::Rules;
+use std::alloc::Global;
+
+/// Why a rule set is not accepted.
+#[derive(Debug, Drop)]
+pub enum AcceptError {
+    /// The condition holds, and none that is asked before it does.
+    Refused { kind: RefusalKind, name: Symbol },
+    Memory,
+}
+
+impl Accepted {
+    /// The rule set.
+    pub fn rules(&self) -> &Rules
+        ensures same { result.now ≡ self.now.rules }
+        ensures accepted { spec.refused_by (seen_rules self.now.rules) ≡ None }
+    {
+        &self.rules
+    }
+}
+
+/// The rule set as an accepted one, or as it was, with the first condition that holds and the name
+/// of the first declaration in which it does.
+pub fn accept(alloc: Global, rules: Rules) -> Result<Accepted, (Rules, AcceptError)>
+    ensures accepted { IfOk result (λ a. a.rules ≡ rules) }
+    ensures back { IfErr result (λ e. e.0 ≡ rules) }
+    ensures refused { IfErr result (λ e. IsTold (spec.refused_by (seen_rules rules)) e.1) }
+{
+    match refused_by(alloc, &rules) {
+        Ok(None) => Ok(Accepted { rules }),
+        Ok(Some(Refused { kind, name })) => Err((rules, AcceptError::Refused { kind, name })),
+        Err(Memory) => Err((rules, AcceptError::Memory)),
+    }
+}
