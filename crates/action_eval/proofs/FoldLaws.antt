@@ -1,5 +1,5 @@
 -- Folds over values, one value at a time.
-use Rattle.std.proofs.Common.{◌≡◌, ℕ, zero, suc, ◌+◌, ◌<◌, Bool, true, false, cond, List, [], ◌∷◌, ◌++◌, length, get_or, take, refl, ap, sym, ◌∙◌, add-one, arith}
+use Rattle.std.proofs.Common.{◌≡◌, ℕ, zero, suc, ◌+◌, ◌-◌, ◌<◌, ◌≤◌, Bool, true, false, cond, List, [], ◌∷◌, ◌++◌, length, get_or, take, refl, ap, sym, ◌∙◌, add-one, arith}
 use Rattle.std.specs.Prelude.{map, ◌&&◌, ◌||◌}
 use Rattle.std.specs.List.{list_all, list_any}
 use Rattle.std.specs.Cmp.Derive.{both_true}
@@ -25,14 +25,24 @@ product-push : (vs : List Value) (v : Value) (n : ℕ) → product_of (vs ++ v �
 product-push [] v n = refl
 product-push (w ∷ vs) v n = ap (capped_mul (number_in w)) (product-push vs v n)
 
--- the last of the values that are left goes into the sum
-pub total-last : (left before : List Value) (v : Value) (number sum next made : ℕ) → left ≡ before ++ v ∷ [] → number ≡ number_in v → next ≡ capped_add number sum → total_of left sum ≡ made → total_of before next ≡ made
-total-last left before v number sum next made cut n is whole =
-    ap (λ k. total_of before k) (is ∙ ap (λ k. capped_add k sum) n) ∙ sym (total-push before v sum) ∙ ap (λ vs. total_of vs sum) (sym cut) ∙ whole
+-- the last of the first n stands behind the others
+pub one-fewer : {A : Type 0} (xs : List A) (n : ℕ) (x : A) → 0 < n → n ≤ length xs → x ≡ get_or xs (n - 1) x
+    → take n xs ≡ take (n - 1) xs ++ x ∷ []
+one-fewer xs n x some within is =
+    ap (λ k. take k xs) (let e : n ≡ n - 1 + 1 = omega (arith, some) in e)
+    ∙ take_more xs (n - 1) x (omega (arith, some, within)) ∙ ap (λ y. take (n - 1) xs ++ y ∷ []) (sym is)
 
-pub product-last : (left before : List Value) (v : Value) (number sum next made : ℕ) → left ≡ before ++ v ∷ [] → number ≡ number_in v → next ≡ capped_mul number sum → product_of left sum ≡ made → product_of before next ≡ made
-product-last left before v number sum next made cut n is whole =
-    ap (λ k. product_of before k) (is ∙ ap (λ k. capped_mul k sum) n) ∙ sym (product-push before v sum) ∙ ap (λ vs. product_of vs sum) (sym cut) ∙ whole
+-- the last of the values that are left goes into the sum
+module _ (vs : List Value) (n : ℕ) (v w : Value) (number sum next made : ℕ) (some : 0 < n) (within : n ≤ length vs) (is : v ≡ get_or vs (n - 1) v) (held : w ≡ v) (as_number : number ≡ number_in w) where
+  pub total-fewer : next ≡ capped_add number sum → total_of (take n vs) sum ≡ made → total_of (take (n - 1) vs) next ≡ made
+  total-fewer added whole =
+      ap (λ k. total_of (take (n - 1) vs) k) (added ∙ ap (λ k. capped_add k sum) (as_number ∙ ap number_in held)) ∙ sym (total-push (take (n - 1) vs) v sum)
+      ∙ ap (λ us. total_of us sum) (sym (one-fewer vs n v some within is)) ∙ whole
+
+  pub product-fewer : next ≡ capped_mul number sum → product_of (take n vs) sum ≡ made → product_of (take (n - 1) vs) next ≡ made
+  product-fewer multiplied whole =
+      ap (λ k. product_of (take (n - 1) vs) k) (multiplied ∙ ap (λ k. capped_mul k sum) (as_number ∙ ap number_in held)) ∙ sym (product-push (take (n - 1) vs) v sum)
+      ∙ ap (λ us. product_of us sum) (sym (one-fewer vs n v some within is)) ∙ whole
 
 pub symbols_in-push : (vs : List Value) (v : Value) → symbols_in (vs ++ v ∷ []) ≡ symbols_in vs ++ symbol_in v ∷ []
 symbols_in-push [] v = refl

@@ -1,7 +1,6 @@
 -- What names stand for in the innermost frame, and in those around it.
-use Rattle.std.proofs.Common.{◌≡◌, ℕ, ◌-◌, ◌+◌, ◌<◌, ◌≤◌, false, cond, List, [], ◌∷◌, ◌++◌, length, map, take, reverse, get_or, ap, sym, ◌∙◌, arith, Bor}
+use Rattle.std.proofs.Common.{◌≡◌, false, cond, List, [], ◌∷◌, ◌++◌, map, reverse, ap, sym, ◌∙◌, Bor}
 use Rattle.std.specs.Str.{bytes_eq}
-use Rattle.std.proofs.lemmas.List.{take_more}
 use Rattle.pr_value.specs.Symbols.{Symbol}
 use Rattle.pr_value.specs.declared.value.Value.TheVariants as value
 use Rattle.action_eval.specs.Machine.{World, scope_in, helpers_in, is_in_body}
@@ -10,13 +9,6 @@ use Rattle.action_eval.specs.SeenMachine.{seen_frame}
 use Rattle.action_eval.specs.declared.machine.Frame.{Frame}
 use Rattle.action_eval.specs.declared.machine.Frame.TheVariants as frame
 use Rattle.action_eval.proofs.MachineLaws.{pushed}
-
--- the last of the first n stands behind the others
-pub one-fewer : (fs : List Frame) (n : ℕ) (f : Frame) → 0 < n → n ≤ length fs → f ≡ get_or fs (n - 1) f
-    → take n fs ≡ take (n - 1) fs ++ f ∷ []
-one-fewer fs n f some within is =
-    ap (λ k. take k fs) (let e : n ≡ n - 1 + 1 = omega (arith, some) in e)
-    ∙ take_more fs (n - 1) f (omega (arith, some, within)) ∙ ap (λ g. take (n - 1) fs ++ g ∷ []) (sym is)
 
 module _ (fs outer : List Frame) (f : Frame) (cut : fs ≡ outer ++ f ∷ []) where
   innermost : (g : Frame) → f ≡ g → map seen_frame (reverse fs) ≡ seen_frame g ∷ map seen_frame (reverse outer)

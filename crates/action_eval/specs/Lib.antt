@@ -11,6 +11,7 @@ pub mod Meaning
 pub mod Names
 pub mod SeenEnv
 pub mod SeenForms
+pub mod SeenHeld
 pub mod SeenMachine
 pub mod Steps
 pub mod Types

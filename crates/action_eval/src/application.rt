@@ -8,6 +8,7 @@ ghost use Rattle.action_eval.specs.Builtins.{at, builtin_value};
 
 use crate::arguments::{copy_at, members_at, number_at, set_at, symbol_at, truth_at};
 use crate::collections::{list_of, push_all, symbols_in};
+use crate::held::Held;
 use catalog::Catalog;
 use pr_value::{CAP, Memory, SymList, SymSet, Symbol, Value, cap_log2, copy_symbols, symbol_in};
 use rule_syntax::Builtin;
@@ -17,7 +18,7 @@ use std::alloc::Global;
 pub fn apply(
     alloc: Global,
     function: Builtin,
-    args: &[Value],
+    args: &[Held],
     catalog: &Catalog,
 ) -> Result<Value, Memory>
     ensures { IfOk result (λ v. v ≡ builtin_value catalog.now function args.now) }
@@ -50,13 +51,13 @@ pub fn apply(
     }
 }
 
-fn choice(alloc: Global, args: &[Value]) -> Result<Value, Memory>
+fn choice(alloc: Global, args: &[Held]) -> Result<Value, Memory>
     ensures { IfOk result (λ v. v ≡ (if truth_in (at args.now 0) then at args.now 1 else at args.now 2)) }
 {
     if truth_at(args, 0) {
-        copy_at(alloc, args, 1)
+        copy_at(alloc, args, 1)?.into_value(alloc)
     } else {
-        copy_at(alloc, args, 2)
+        copy_at(alloc, args, 2)?.into_value(alloc)
     }
 }
 
@@ -100,14 +101,14 @@ fn elements(alloc: Global, symbols: &[Symbol]) -> Result<Value, Memory>
 /// The value in the table that the first argument names, at the keys that follow.
 fn found<'a>(
     alloc: Global,
-    args: &[Value],
+    args: &[Held],
     catalog: &'a Catalog,
 ) -> Result<Option<&'a Value>, Memory>
     ensures { IfOk result (λ v. option_copied v ≡ spec.found catalog.now args.now) }
 {
     match args.split_first() {
         Some((table, keys)) => {
-            let table = symbol_in(alloc, table)?;
+            let table = symbol_in(alloc, table.get())?;
             let keys = symbols_in(alloc, keys)?;
             Ok(catalog.lookup(&table, keys.as_slice()))
         }

@@ -4,16 +4,17 @@ ghost use Rattle.pr_value.specs.SymbolSets.{set_of};
 ghost use Rattle.pr_value.specs.declared.value.Value.TheVariants as value;
 ghost use Rattle.action_eval.specs.Builtins as builtins;
 
+use crate::held::Held;
 use pr_value::{Memory, SymList, SymSet, Symbol, Value, symbol_in};
 use std::alloc::Global;
 
 /// The symbols of values.
-pub fn symbols_in(alloc: Global, values: &[Value]) -> Result<Vec<Symbol>, Memory>
+pub fn symbols_in(alloc: Global, values: &[Held]) -> Result<Vec<Symbol>, Memory>
     ensures { IfOk result (λ ss. ss.items ≡ builtins.symbols_in values.now) }
 {
     let mut symbols = Vec::with_capacity(alloc, values.len())?;
     for value in values {
-        symbols.push(symbol_in(alloc, value)?)?;
+        symbols.push(symbol_in(alloc, value.get())?)?;
     }
     Ok(symbols)
 }
@@ -38,7 +39,7 @@ pub fn push_all(alloc: Global, symbols: &[Symbol], list: &mut SymList) -> Result
 }
 
 /// `{..}`
-pub fn set_value(alloc: Global, values: &[Value]) -> Result<Value, Memory>
+pub fn set_value(alloc: Global, values: &[Held]) -> Result<Value, Memory>
     ensures { IfOk result (λ v. v ≡ value.Set (set_of (builtins.symbols_in values.now))) }
 {
     let symbols = symbols_in(alloc, values)?;
@@ -46,7 +47,7 @@ pub fn set_value(alloc: Global, values: &[Value]) -> Result<Value, Memory>
 }
 
 /// `[..]`
-pub fn list_value(alloc: Global, values: &[Value]) -> Result<Value, Memory>
+pub fn list_value(alloc: Global, values: &[Held]) -> Result<Value, Memory>
     ensures { IfOk result (λ v. v ≡ value.List (builtins.symbols_in values.now)) }
 {
     let symbols = symbols_in(alloc, values)?;

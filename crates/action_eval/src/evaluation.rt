@@ -18,7 +18,8 @@ fn run<'a>(alloc: Global, within: &Within<'a>, machine: &mut Machine<'a>) -> Res
     while let Some(task) = machine.pop_task() {
         step(alloc, task, within, machine)?;
     }
-    Ok(machine.pop_value())
+    let value = machine.pop_value().into_value(alloc)?;
+    Ok(value)
 }
 
 /// The value of an expression outside of all helpers and folds.

@@ -7,17 +7,13 @@ ghost use Rattle.action_eval.specs.Folds.{total_of, product_of, kept_of, fold_of
 
 use crate::arguments::truth_at;
 use crate::collections::list_of;
+use crate::held::Held;
 use pr_value::{Memory, SymSet, Symbol, Value, cap_add, cap_mul, number_in, truth_in};
 use rule_syntax::FoldKind;
 use std::alloc::Global;
 
 /// The fold over a set or a list, from the value at each member in order.
-pub fn folded(
-    alloc: Global,
-    fold: FoldKind,
-    over: &Value,
-    values: &[Value],
-) -> Result<Value, Memory>
+pub fn folded(alloc: Global, fold: FoldKind, over: &Value, values: &[Held]) -> Result<Value, Memory>
     ensures { IfOk result (λ v. v ≡ fold_of fold over.now values.now) }
 {
     match fold {
@@ -29,44 +25,46 @@ pub fn folded(
     }
 }
 
-fn total(values: &[Value]) -> u64
+fn total(values: &[Held]) -> u64
     ensures { result ≡ total_of values.now 0 }
 {
     let mut sum = 0;
-    let mut rest = values;
-    while let Some((value, before)) = rest.split_last() {
+    let mut left = values.len();
+    while left > 0 {
+        left -= 1;
+        let value = values[left].get();
         sum = cap_add(number_in(value), sum);
-        rest = before;
     }
     sum
 }
 
-fn product(values: &[Value]) -> u64
+fn product(values: &[Held]) -> u64
     ensures { result ≡ product_of values.now 1 }
 {
     let mut product = 1;
-    let mut rest = values;
-    while let Some((value, before)) = rest.split_last() {
+    let mut left = values.len();
+    while left > 0 {
+        left -= 1;
+        let value = values[left].get();
         product = cap_mul(number_in(value), product);
-        rest = before;
     }
     product
 }
 
-fn some_true(values: &[Value]) -> bool
+fn some_true(values: &[Held]) -> bool
     ensures { result ≡ list_any truth_in values.now }
 {
-    values.iter().any(|v| truth_in(v))
+    values.iter().any(|v| truth_in(v.get()))
 }
 
-fn all_true(values: &[Value]) -> bool
+fn all_true(values: &[Held]) -> bool
     ensures { result ≡ list_all truth_in values.now }
 {
-    values.iter().all(|v| truth_in(v))
+    values.iter().all(|v| truth_in(v.get()))
 }
 
 /// The set or the list of the members beside which a truth holds.
-fn keep(alloc: Global, over: &Value, values: &[Value]) -> Result<Value, Memory>
+fn keep(alloc: Global, over: &Value, values: &[Held]) -> Result<Value, Memory>
     ensures { IfOk result (λ v. v ≡ collection over.now (kept_of (members_in over.now) values.now)) }
 {
     match over {
@@ -82,7 +80,7 @@ fn keep(alloc: Global, over: &Value, values: &[Value]) -> Result<Value, Memory>
     }
 }
 
-fn kept(alloc: Global, members: &[Symbol], values: &[Value]) -> Result<Vec<Symbol>, Memory>
+fn kept(alloc: Global, members: &[Symbol], values: &[Held]) -> Result<Vec<Symbol>, Memory>
     ensures { IfOk result (λ ss. ss.items ≡ kept_of members.now values.now) }
 {
     let mut kept = Vec::new(alloc);

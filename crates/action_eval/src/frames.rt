@@ -5,12 +5,18 @@ ghost use Rattle.action_eval.specs.Meaning.{bound, value_in};
 ghost use Rattle.action_eval.specs.SeenMachine.{seen_frame};
 
 use crate::arguments::copy_at;
+use crate::held::Held;
 use crate::machine::Frame;
 use pr_value::{Memory, Symbol, Value};
 use rule_syntax::Param;
 use std::alloc::Global;
 
-fn argument(alloc: Global, name: &Symbol, params: &[Param], args: &[Value]) -> Result<Value, Memory>
+fn argument<'a>(
+    alloc: Global,
+    name: &Symbol,
+    params: &[Param],
+    args: &[Held<'a>],
+) -> Result<Held<'a>, Memory>
     ensures { IfOk result (λ v. v ≡ value_in (bound params.now args.now) name.now) }
 {
     for (i, param) in params.iter().enumerate() {
@@ -18,11 +24,11 @@ fn argument(alloc: Global, name: &Symbol, params: &[Param], args: &[Value]) -> R
             return copy_at(alloc, args, i);
         }
     }
-    Ok(Value::Num(0))
+    Ok(Held::own(Value::Num(0)))
 }
 
 /// The value of that name, or 0.
-pub fn variable(alloc: Global, name: &Symbol, frames: &[Frame]) -> Result<Value, Memory>
+pub fn variable<'a>(alloc: Global, name: &Symbol, frames: &[Frame<'a>]) -> Result<Held<'a>, Memory>
     ensures { (w : World) → IfOk result (λ v.
         v ≡ value_in (scope_in w (map seen_frame (reverse frames.now))).values name.now) }
 {
@@ -33,12 +39,12 @@ pub fn variable(alloc: Global, name: &Symbol, frames: &[Frame]) -> Result<Value,
             Frame::Body(params, args, _) => return argument(alloc, name, params, args.as_slice()),
             Frame::Member(own, member) => {
                 if **own == *name {
-                    return Ok(Value::Sym(member.copy(alloc)?));
+                    return Ok(Held::own(Value::Sym(member.copy(alloc)?)));
                 }
             }
         }
     }
-    Ok(Value::Num(0))
+    Ok(Held::own(Value::Num(0)))
 }
 
 /// How many helpers are seen, of so many.

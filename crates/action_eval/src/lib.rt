@@ -10,6 +10,7 @@ mod evaluation;
 mod expressions;
 mod folds;
 mod frames;
+mod held;
 mod helpers;
 mod laws;
 mod machine;

@@ -5,6 +5,7 @@ ghost use Rattle.action_eval.specs.Builtins.{at};
 ghost use Rattle.action_eval.specs.Machine as spec;
 ghost use Rattle.action_eval.specs.SeenMachine.{seen_task, seen_frame, seen_machine};
 
+use crate::held::Held;
 use pr_value::{Memory, Symbol, Value};
 use rule_syntax::{BinOp, Expr, FoldKind, Param};
 use std::alloc::Global;
@@ -39,7 +40,7 @@ pub enum Task<'a> {
 #[derive(Drop)]
 pub enum Frame<'a> {
     /// A helper's body, which sees its parameters and so many helpers alone.
-    Body(&'a [Param], Vec<Value>, usize),
+    Body(&'a [Param], Vec<Held<'a>>, usize),
     /// A fold's name, with a member.
     Member(&'a Symbol, Symbol),
 }
@@ -48,7 +49,7 @@ pub enum Frame<'a> {
 pub struct Machine<'a> {
     pub tasks: Vec<Task<'a>>,
     pub frames: Vec<Frame<'a>>,
-    pub values: Vec<Value>,
+    pub values: Vec<Held<'a>>,
 }
 
 impl<'a> Machine<'a> {
@@ -72,12 +73,21 @@ impl<'a> Machine<'a> {
         Ok(())
     }
 
+    pub fn push_held(&mut self, value: Held<'a>) -> Result<(), Memory>
+        ensures { OnOk result (seen_machine self.new ≡ record (seen_machine self.old) {
+          values = value.entry ∷ (seen_machine self.old).values;
+        }) }
+    {
+        self.values.push(value)?;
+        Ok(())
+    }
+
     pub fn push_value(&mut self, value: Value) -> Result<(), Memory>
         ensures { OnOk result (seen_machine self.new ≡ record (seen_machine self.old) {
           values = value ∷ (seen_machine self.old).values;
         }) }
     {
-        self.values.push(value)?;
+        self.push_held(Held::own(value))?;
         Ok(())
     }
 
@@ -93,12 +103,12 @@ impl<'a> Machine<'a> {
     }
 
     /// The latest value, which is taken off; 0 where there is none.
-    pub fn pop_value(&mut self) -> Value
+    pub fn pop_value(&mut self) -> Held<'a>
         ensures { result ≡ at (seen_machine self.old).values 0 }
     {
         match self.values.pop() {
             Some(value) => value,
-            None => Value::Num(0),
+            None => Held::own(Value::Num(0)),
         }
     }
 
@@ -125,7 +135,7 @@ impl<'a> Machine<'a> {
     }
 
     /// The latest values, in the order in which they came, which are taken off.
-    pub fn take(&mut self, alloc: Global, count: usize) -> Result<Vec<Value>, Memory>
+    pub fn take(&mut self, alloc: Global, count: usize) -> Result<Vec<Held<'a>>, Memory>
         ensures taken { IfOk result (λ vs.
             vs.items ≡ reverse (take count (seen_machine self.old).values)) }
         ensures left { OnOk result (seen_machine self.new ≡ record (seen_machine self.old) {

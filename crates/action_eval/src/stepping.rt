@@ -15,6 +15,7 @@ use crate::collections::{list_value, set_value};
 use crate::env::Env;
 use crate::folds::folded;
 use crate::frames::{is_in_body, seen_count, variable};
+use crate::held::Held;
 use crate::helpers::place_of;
 use crate::machine::{Frame, Machine, Maker, Task};
 use crate::operators::binary;
@@ -50,22 +51,15 @@ fn make_of<'a>(maker: Maker<'a>, es: &'a [Expr], machine: &mut Machine<'a>) -> R
 }
 
 /// The value of a descriptor's property; 0 in a helper's body, which sees no descriptors.
-fn read_in(
-    alloc: Global,
-    desc: &Symbol,
-    property: &Symbol,
-    within: &Within,
-    frames: &[Frame],
-) -> Result<Value, Memory>
-    ensures { IfOk result (λ v. v ≡ value_of (seen_within within.now).layout property.now
+fn read_in<'a>(desc: &Symbol, property: &Symbol, within: &Within<'a>, frames: &[Frame]) -> Held<'a>
+    ensures { result ≡ value_of (seen_within within.now).layout property.now
         (desc_in (scope_in (seen_within within.now) (map seen_frame (reverse frames.now))).descs
-        desc.now)) }
+        desc.now) }
 {
     if is_in_body(frames) {
-        return Ok(Value::Num(0));
+        return Held::own(Value::Num(0));
     }
-    let value = read(alloc, desc, property, within.env)?;
-    Ok(value)
+    read(desc, property, within.env)
 }
 
 /// The first step of an expression: its value, or the tasks that make it.
@@ -101,11 +95,11 @@ pub fn begin<'a>(
         Expr::Sym(symbol) => machine.push_value(Value::Sym(symbol.copy(alloc)?)),
         Expr::Var(name) => {
             let value = variable(alloc, name, machine.frames.as_slice())?;
-            machine.push_value(value)
+            machine.push_held(value)
         }
         Expr::Read { desc, property } => {
-            let value = read_in(alloc, desc, property, within, machine.frames.as_slice())?;
-            machine.push_value(value)
+            let value = read_in(desc, property, within, machine.frames.as_slice());
+            machine.push_held(value)
         }
     }
 }
@@ -132,11 +126,11 @@ fn push_turns<'a>(
 }
 
 /// Copies of the members of the latest value.
-fn latest_members(alloc: Global, values: &[Value]) -> Result<Vec<Symbol>, Memory>
+fn latest_members(alloc: Global, values: &[Held]) -> Result<Vec<Symbol>, Memory>
     ensures { IfOk result (λ ss. ss.items ≡ members_in (at (reverse values.now) 0)) }
 {
     match values.split_last() {
-        Some((value, _)) => copy_symbols(alloc, members_in(value)),
+        Some((value, _)) => copy_symbols(alloc, members_in(value.get())),
         None => Ok(Vec::new(alloc)),
     }
 }
@@ -162,11 +156,11 @@ fn begin_turns<'a>(
 /// name.
 fn call_helper<'a>(
     name: &'a Symbol,
-    args: Vec<Value>,
+    args: Vec<Held<'a>>,
     within: &Within<'a>,
     machine: &mut Machine<'a>,
 ) -> Result<(), Memory>
-    ensures { OnOk result (CallsHelper (seen_within within.now) name.now args.items
+    ensures { OnOk result (CallsHelper (seen_within within.now) name.now args.entry.items
         (seen_machine machine.old) (seen_machine machine.new)) }
 {
     let all = within.rules.helpers.as_slice();
@@ -185,11 +179,11 @@ fn call_helper<'a>(
 fn call<'a>(
     alloc: Global,
     name: &'a Symbol,
-    args: Vec<Value>,
+    args: Vec<Held<'a>>,
     within: &Within<'a>,
     machine: &mut Machine<'a>,
 ) -> Result<(), Memory>
-    ensures { OnOk result (Calls (seen_within within.now) name.now args.items
+    ensures { OnOk result (Calls (seen_within within.now) name.now args.entry.items
         (seen_machine machine.old) (seen_machine machine.new)) }
 {
     match builtin_of(name.as_slice()) {
@@ -202,23 +196,23 @@ fn call<'a>(
 }
 
 /// What an operator makes of the first two of these.
-fn operated(op: BinOp, args: &[Value]) -> Value
+fn operated(op: BinOp, args: &[Held]) -> Value
     ensures { result ≡ binary_value op (at args.now 0) (at args.now 1) }
 {
     let none = Value::Num(0);
     match args {
         [] => binary(op, &none, &none),
-        [a] => binary(op, a, &none),
-        [a, b, ..] => binary(op, a, b),
+        [a] => binary(op, a.get(), &none),
+        [a, b, ..] => binary(op, a.get(), b.get()),
     }
 }
 
 /// What a fold makes of a set or list, and of the values at its members behind it.
-fn folded_args(alloc: Global, fold: FoldKind, args: &[Value]) -> Result<Value, Memory>
+fn folded_args(alloc: Global, fold: FoldKind, args: &[Held]) -> Result<Value, Memory>
     ensures { IfOk result (λ v. v ≡ fold_of fold (at args.now 0) (drop 1 args.now)) }
 {
     match args.split_first() {
-        Some((over, values)) => folded(alloc, fold, over, values),
+        Some((over, values)) => folded(alloc, fold, over.get(), values),
         None => folded(alloc, fold, &Value::Num(0), &[]),
     }
 }

@@ -1,10 +1,13 @@
-use Rattle.std.proofs.Common.{◌≡◌, length}
+use Rattle.std.proofs.Common.{◌≡◌, ◌≤◌, length, take}
 use Rattle.action_eval.specs.Folds.{product_of}
 use Rattle.action_eval.proofs.folds.product.Given as goal
 
 -- the product so far is that of what stands behind
-abbrev pub invariant-loop-value : goal.invariant-loop-value
-invariant-loop-value l = product_of l.rest l.product ≡ product_of l.initial.rest l.initial.product
+abbrev pub invariant-loop-left : goal.invariant-loop-left
+invariant-loop-left l = record {
+  within : l.left ≤ length l.values;
+  whole : product_of (take l.left l.values) l.product ≡ product_of l.values 1;
+}
 
-abbrev pub decreases-loop-value : goal.decreases-loop-value
-decreases-loop-value l = length l.rest
+abbrev pub decreases-loop-left : goal.decreases-loop-left
+decreases-loop-left l = l.left

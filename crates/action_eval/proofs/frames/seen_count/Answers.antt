@@ -1,5 +1,6 @@
 use Rattle.std.proofs.Common.{◌-◌, take, ◌∙◌, arith}
-use Rattle.action_eval.proofs.FrameLaws.{one-fewer, helpers-passed}
+use Rattle.action_eval.proofs.FoldLaws.{one-fewer}
+use Rattle.action_eval.proofs.FrameLaws.{helpers-passed}
 use Rattle.action_eval.proofs.frames.seen_count.Goals as goal
 
 pub loop-left-preserved : goal.loop-left-preserved

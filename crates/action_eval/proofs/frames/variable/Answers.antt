@@ -1,5 +1,6 @@
 use Rattle.std.proofs.Common.{◌-◌, sym, take, ◌∙◌, arith}
-use Rattle.action_eval.proofs.FrameLaws.{one-fewer, member-passed}
+use Rattle.action_eval.proofs.FoldLaws.{one-fewer}
+use Rattle.action_eval.proofs.FrameLaws.{member-passed}
 use Rattle.action_eval.proofs.frames.variable.Goals as goal
 
 pub loop-left-preserved : goal.loop-left-preserved

@@ -10,15 +10,15 @@ use Rattle.action_eval.proofs.reading.read.Goals as goal
 pub returns-in_default : goal.returns-in_default
 returns-in_default c =
     let env = seen_env c.args.env.now in
-    sym (ap (value_of env.layout c.args.property.now) (desc_in-unknown env.descs c.args.desc.now c.in_default.ensures.none) ∙ value_of-nothing env.layout c.args.property.now)
+    c.own.ensures ∙ sym (ap (value_of env.layout c.args.property.now) (desc_in-unknown env.descs c.args.desc.now c.in_default.ensures.none) ∙ value_of-nothing env.layout c.args.property.now)
 
 pub returns-in_default-find : goal.returns-in_default-find
 returns-in_default-find c =
     let env = seen_env c.args.env.now in
-    sym (value_of-nowhere env.layout c.args.property.now (desc_in env.descs c.args.desc.now) (ap (λ (l : Layout). place_of l c.args.property.now) (sym c.layout.ensures) ∙ sym c.in_default-find.ensures))
+    c.own-in_default-find.ensures ∙ sym (value_of-nowhere env.layout c.args.property.now (desc_in env.descs c.args.desc.now) (ap (λ (l : Layout). place_of l c.args.property.now) (sym c.layout.ensures) ∙ sym c.in_default-find.ensures))
 
 pub returns : goal.returns
 returns c =
     let env = seen_env c.args.env.now in
-    c.in_ok-value.ensures ∙ ap (λ (d : Desc). at d c.in-Some-find.place) c.in-Some.ensures.some
+    c.value_at.ensures ∙ ap (λ (d : Desc). at d c.in-Some-find.place) c.in-Some.ensures.some
     ∙ sym (value_of-place env.layout c.args.property.now (desc_in env.descs c.args.desc.now) c.in-Some-find.place (ap (λ (l : Layout). place_of l c.args.property.now) (sym c.layout.ensures) ∙ sym c.in-Some-find.ensures))

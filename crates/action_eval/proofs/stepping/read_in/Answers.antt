@@ -11,10 +11,10 @@ pub returns-then-is_in_body : goal.returns-then-is_in_body
 returns-then-is_in_body c =
     let w = seen_within c.args.within.now in
     let inside = descs-in_body w (map seen_frame (reverse c.args.frames.now)) (sym c.is_in_body.ensures ∙ c.if-is_in_body.true) in
-    sym (ap (λ (ds : List (Symbol × Desc)). value_of w.layout c.args.property.now (desc_in ds c.args.desc.now)) inside ∙ value_of-nothing w.layout c.args.property.now)
+    c.own.ensures ∙ sym (ap (λ (ds : List (Symbol × Desc)). value_of w.layout c.args.property.now (desc_in ds c.args.desc.now)) inside ∙ value_of-nothing w.layout c.args.property.now)
 
 pub returns : goal.returns
 returns c =
     let w = seen_within c.args.within.now in
     let outside = descs-outside w (map seen_frame (reverse c.args.frames.now)) (sym c.is_in_body.ensures ∙ c.if-is_in_body.false) in
-    c.in_ok-value.ensures ∙ sym (ap (λ (ds : List (Symbol × Desc)). value_of w.layout c.args.property.now (desc_in ds c.args.desc.now)) outside)
+    c.read.ensures ∙ sym (ap (λ (ds : List (Symbol × Desc)). value_of w.layout c.args.property.now (desc_in ds c.args.desc.now)) outside)
