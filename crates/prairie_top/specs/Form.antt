@@ -5,13 +5,12 @@ use Rattle.std.specs.Str.{bytes_eq}
 use Rattle.pr_value.specs.Symbols.{Symbol}
 use Rattle.pr_value.specs.SymbolSets.{contains}
 use Rattle.pr_value.specs.Trees.{Tree, node, Trees, nil, cons, list_of}
-use Rattle.pr_value.specs.declared.kind.Kind.{Kind}
-use Rattle.pr_value.specs.declared.kind.Kind.TheVariants as kind
 use Rattle.rule_syntax.specs.declared.expr.BinOp.TheVariants as op
 use Rattle.pr_value.specs.declared.property.Property.{Property}
 use Rattle.rule_syntax.specs.declared.sides.AlgName.{AlgName}
 use Rattle.rule_syntax.specs.declared.sides.AlgName.TheVariants as alg
 use Rattle.rule_syntax.specs.declared.sides.ImplSide.{ImplSide}
+use Rattle.rule_syntax.specs.CostForms.{is_cost}
 use Rattle.rule_syntax.specs.Syntax.{Expr, number, truth, read, binary, Stmt, set, LeftLabel, QueryLabel, Operator, IRule, Rules, Query}
 use Rattle.rule_types.specs.Conditions.{takes}
 
@@ -22,10 +21,6 @@ is_empty (x ∷ xs) = false
 -- the name of the one property
 abbrev pub cost_name : Symbol
 cost_name = codes "cost"
-
-abbrev pub is_cost : Kind → Bool
-is_cost kind.Cost = true
-is_cost _ = false
 
 -- `cost : cost` and nothing else
 abbrev pub is_cost_alone : List Property → Bool

@@ -19,19 +19,19 @@ part_name part.File = codes "File"
 part_name part.Tables = codes "Tables"
 part_name part.Row = codes "Row"
 
-abbrev pub kind_name : RefusalKind → List ℕ
-kind_name kind.TooMany = codes "TooMany"
-kind_name kind.TwoNames = codes "TwoNames"
-kind_name kind.NoCost = codes "NoCost"
-kind_name kind.TwoCosts = codes "TwoCosts"
-kind_name kind.UnknownName = codes "UnknownName"
-kind_name kind.WrongArity = codes "WrongArity"
-kind_name kind.HelperCost = codes "HelperCost"
-kind_name kind.WrongType = codes "WrongType"
-kind_name kind.LeftStreamTwice = codes "LeftStreamTwice"
-kind_name kind.StreamOrder = codes "StreamOrder"
-kind_name kind.TooManyNodes = codes "TooManyNodes"
-kind_name kind.LeftNotFlat = codes "LeftNotFlat"
+abbrev pub condition_name : RefusalKind → List ℕ
+condition_name kind.TooMany = codes "TooMany"
+condition_name kind.TwoNames = codes "TwoNames"
+condition_name kind.NoCost = codes "NoCost"
+condition_name kind.TwoCosts = codes "TwoCosts"
+condition_name kind.UnknownName = codes "UnknownName"
+condition_name kind.WrongArity = codes "WrongArity"
+condition_name kind.HelperCost = codes "HelperCost"
+condition_name kind.WrongType = codes "WrongType"
+condition_name kind.LeftStreamTwice = codes "LeftStreamTwice"
+condition_name kind.StreamOrder = codes "StreamOrder"
+condition_name kind.TooManyNodes = codes "TooManyNodes"
+condition_name kind.LeftNotFlat = codes "LeftNotFlat"
 
 abbrev pub refusal_name : Refusal → List ℕ
 refusal_name TooLong = codes "TooLong"
@@ -42,7 +42,7 @@ refusal_name (BadSyntax at) = at_offset (codes "BadSyntax") at
 refusal_name (TooDeep at) = at_offset (codes "TooDeep") at
 refusal_name NotJson = codes "NotJson"
 refusal_name (BadShape part) = codes "BadShape " ++ part_name part
-refusal_name (NotAccepted kind name) = kind_name kind ++ codes " " ++ name
+refusal_name (NotAccepted kind name) = condition_name kind ++ codes " " ++ name
 refusal_name Unbuilt = codes "Unbuilt"
 
 -- a text, and why it is refused

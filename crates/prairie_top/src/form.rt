@@ -7,12 +7,12 @@ ghost use Rattle.pr_value.specs.Trees.{trees_of};
 ghost use Rattle.rule_syntax.specs.Seen.{seen_expr, seen_stmt, seen_left, seen_left_in, seen_operator, seen_irule, seen_query};
 ghost use Rattle.rule_syntax.specs.SeenRules.{seen_rules};
 ghost use Rattle.rule_types.specs.Conditions.{takes};
-ghost use Rattle.prairie_top.specs.Form.{is_empty, cost_name, is_cost, is_cost_alone, is_stream, is_flat, is_named, is_true, is_sum, sets_cost, is_plain_rule, is_planned, nodes, nodes_of, fits, is_planned_query};
+ghost use Rattle.prairie_top.specs.Form.{is_empty, cost_name, is_cost_alone, is_stream, is_flat, is_named, is_true, is_sum, sets_cost, is_plain_rule, is_planned, nodes, nodes_of, fits, is_planned_query};
 
-use pr_value::{Kind, Symbol};
+use pr_value::Symbol;
 use rule_syntax::{
     AlgName, BinOp, Expr, IRule, ImplIn, ImplSide, Left, LeftIn, Operator, Property, QueryText,
-    Rules, Setting, Stmt,
+    Rules, Setting, Stmt, is_cost,
 };
 
 /// The most nodes of a query.
@@ -30,18 +30,12 @@ fn is_cost_name(name: &Symbol) -> bool
     name.as_slice() == b"cost".as_slice()
 }
 
-fn is_cost(kind: &Kind) -> bool
-    ensures { result ≡ is_cost kind.now }
-{
-    matches!(kind, Kind::Cost)
-}
-
 /// Whether it is `cost : cost` and nothing else.
 fn is_cost_alone(properties: &[Property]) -> bool
     ensures { result ≡ is_cost_alone properties.now }
 {
     match properties {
-        [property] => is_cost_name(&property.name) && is_cost(&property.kind),
+        [property] => is_cost_name(&property.name) && is_cost(property.kind),
         _ => false,
     }
 }

@@ -1,5 +1,5 @@
 ghost use Rattle.std.specs.Prelude.{◌≡◌, ◌++◌, [], codes, OnOk};
-ghost use Rattle.prairie_top.specs.Messages.{at_offset, part_name, kind_name, refusal_name, refusal_text, fault_text};
+ghost use Rattle.prairie_top.specs.Messages.{at_offset, part_name, condition_name, refusal_name, refusal_text, fault_text};
 
 use crate::stage::Refusal;
 use catalog::CatalogPart;
@@ -73,16 +73,16 @@ fn name_of_part(part: CatalogPart) -> &'static [u8]
 }
 
 fn push_condition(kind: RefusalKind, name: &Symbol, text: &mut Text) -> Result<(), Memory>
-    ensures { OnOk result (text.new ≡ text.old ++ kind_name kind ++ codes " " ++ name.now) }
+    ensures { OnOk result (text.new ≡ text.old ++ condition_name kind ++ codes " " ++ name.now) }
 {
-    text.push_bytes(name_of_kind(kind))?;
+    text.push_bytes(name_of_condition(kind))?;
     text.push_bytes(b" ")?;
     text.push_bytes(name.as_slice())?;
     Ok(())
 }
 
-fn name_of_kind(kind: RefusalKind) -> &'static [u8]
-    ensures { result.now ≡ kind_name kind }
+fn name_of_condition(kind: RefusalKind) -> &'static [u8]
+    ensures { result.now ≡ condition_name kind }
 {
     match kind {
         RefusalKind::TooMany => b"TooMany",
