@@ -1,0 +1,15 @@
+pub mod Equates
+pub mod Forest
+pub mod Grew
+pub mod Memos
+pub mod Index
+pub mod Merge
+pub mod Kept
+pub mod Union
+pub mod Reach
+pub mod Rebuild
+pub mod Learn
+pub mod Settle
+pub mod Adding
+pub mod Start
+pub mod Counts
