@@ -17,8 +17,6 @@ mod base_tests;
 #[cfg(test)]
 mod derivation_tests;
 #[cfg(test)]
-mod evaluation_tests;
-#[cfg(test)]
 mod moves_tests;
 #[cfg(test)]
 mod outside_tests;

@@ -1,11 +1,10 @@
 -- Laws of texts that are asked for one after another, whatever comes next.
-use Rattle.std.proofs.Common.{◌≡◌, ℕ, ◌<◌, ◌≤◌, true, false, Bool, List, length, Option, Some, None, refl, ap, sym, ◌∙◌, subst, arith, inl, inr}
-use Rattle.std.specs.Prelude.{◌⊎◌, Result, Ok, Err}
-use Rattle.pr_outside.specs.Counts.{last_count, Rose, Still}
+use Rattle.std.proofs.Common.{◌≡◌, ℕ, ◌<◌, true, false, Bool, List, length, Option, Some, None, ap, sym, ◌∙◌, subst, arith, inl, inr}
+use Rattle.std.specs.Prelude.{◌⊎◌, Result, Err}
+use Rattle.pr_outside.specs.Counts.{last_count, Still}
 use Rattle.pr_outside.specs.Files.{Files, held_under, MayFail}
-use Rattle.prairie_top.specs.Messages.{refusal_text, fault_text}
 use Rattle.prairie_top.specs.Run.{Fetches, Told}
-use Rattle.prairie_top.specs.Sources.{Source, Within, AllFetched, Fails, IsRead, IsRefused, Chain, refused, failed, read}
+use Rattle.prairie_top.specs.Sources.{Source, Within, AllFetched, IsRead, IsRefused, Chain, refused, failed, read}
 use Rattle.prairie_top.specs.Stages.{IsHad, IsStopped}
 use Rattle.prairie_top.specs.declared.stage.Refusal.{Refusal}
 use Rattle.prairie_top.specs.declared.stage.Refusal.TheVariants.{TooLong}

@@ -1,18 +1,16 @@
 -- Each query has a best plan, or none at all.
-use Rattle.std.proofs.Common.{◌≡◌, ℕ, suc, ◌<◌, ◌≤◌, slice_get, List, [], ◌∷◌, ◌++◌, length, map, Option, Some, None, inl, inr, refl, ap, sym, ◌∙◌, subst, arith}
-use Rattle.std.specs.Prelude.{◌⊎◌, Contains}
+use Rattle.std.proofs.Common.{◌≡◌, ℕ, suc, slice_get, List, [], ◌∷◌, ◌++◌, length, map, Option, Some, None, refl, ap, sym, subst, arith}
 use Rattle.std.proofs.lemmas.List.{append_assoc}
 use Rattle.pr_value.specs.Symbols.{Symbol}
-use Rattle.pr_value.specs.Trees.{node, Trees, nil, cons, list_of, trees_of, tree}
+use Rattle.pr_value.specs.Trees.{node, Trees, nil, cons, list_of, tree}
 use Rattle.pr_value.proofs.TreeLaws.{trees_of_list_of}
-use Rattle.catalog.specs.Contents.{Catalog}
 use Rattle.rule_syntax.specs.declared.query.Setting.{Setting}
-use Rattle.rule_syntax.specs.Syntax.{QueryLabel, IRule, Query, Rules}
+use Rattle.rule_syntax.specs.Syntax.{QueryLabel, IRule, Query}
 use Rattle.prairie_top.specs.Outcome.{Outcome, planned, unplanned, IsOutcome, outcome_status}
 use Rattle.prairie_top.specs.Laws.{OneExists}
 use Rattle.prairie_top.specs.Plans.{Plan, PlanLabel, algorithm, cost, Implements, Best, NoPlan}
 use Rattle.prairie_top.specs.Plans as plan
-use Rattle.prairie_top.specs.Search.{IsBest, AllBest, AreBest, IsCheapest, IsOver, with_rule}
+use Rattle.prairie_top.specs.Search.{IsBest, AreBest, IsCheapest, IsOver, with_rule}
 use Rattle.prairie_top.proofs.LawLemmas.{one_outcome}
 use Rattle.prairie_top.proofs.SearchLaws.{best_over, none_over, cheapest_more}
 

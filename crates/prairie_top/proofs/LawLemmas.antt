@@ -1,11 +1,10 @@
 -- The causes of answers exclude each other.
-use Rattle.std.proofs.Common.{◌≡◌, ℕ, ◌<◌, ◌≤◌, true, false, List, [], ◌∷◌, length, map, Option, Some, None, refl, ap, sym, ◌∙◌, subst, arith, inl, inr}
+use Rattle.std.proofs.Common.{◌≡◌, ℕ, ◌<◌, true, false, List, [], ◌∷◌, map, Option, Some, None, refl, ap, sym, ◌∙◌, subst, arith, inl, inr}
 use Rattle.std.specs.Prelude.{◌⊎◌, ◌≢◌, codes}
 use Rattle.pr_outside.specs.Counts.{last_count, Still}
 use Rattle.pr_outside.specs.Files.{Files}
 use Rattle.pr_value.specs.declared.token.Token.{Token}
 use Rattle.serde_json.specs.Data.{Data}
-use Rattle.serde_json.specs.Find.{get}
 use Rattle.catalog.specs.Contents.{Catalog}
 use Rattle.catalog.specs.Shape.{IsJson, first_bad, OneCatalog}
 use Rattle.rule_lex.specs.Laws.{OneList, NeverBoth}
@@ -16,18 +15,18 @@ use Rattle.rule_syntax.specs.DistinctRules.{DistinctRules}
 use Rattle.rule_syntax.specs.DistinctQueries.{DistinctQueries}
 use Rattle.rule_types.specs.Conditions.{refused_by}
 use Rattle.prairie_top.specs.declared.stage.Refusal.{Refusal}
-use Rattle.prairie_top.specs.declared.stage.Refusal.TheVariants.{TooLong, BadByte, NumberTooBig, NameTooLong, BadSyntax, TooDeep, NotJson, BadShape, NotAccepted, Unbuilt}
+use Rattle.prairie_top.specs.declared.stage.Refusal.TheVariants.{TooLong, BadByte, NumberTooBig, NameTooLong, BadSyntax, TooDeep, NotJson, BadShape, NotAccepted, TooManyNodes, UnknownOperator, UnknownFile, Arity, UnknownProperty, WrongType, Unbuilt}
 use Rattle.prairie_top.specs.declared.status.Status.{Status}
 use Rattle.prairie_top.specs.declared.status.Status.TheVariants as status
 use Rattle.prairie_top.specs.Form.{is_planned}
-use Rattle.prairie_top.specs.Plans.{Best, NoPlan}
+use Rattle.query_tree.specs.Refusals.{refusal_of}
 use Rattle.prairie_top.specs.Messages.{no_plan_text, usage_text, memory_text}
-use Rattle.prairie_top.specs.Reading.{HasTokens, HasNoTokens, Grammar, Reads, IsRefusedText, no_tokens, unread, refused, IsRefusedRules, rules_grammar, query_grammar, ReadsCatalog, IsRefusedCatalog}
+use Rattle.prairie_top.specs.Reading.{HasTokens, HasNoTokens, Grammar, Reads, IsRefusedText, no_tokens, unread, refused, IsRefusedRules, IsRefusedQuery, rules_grammar, query_grammar, ReadsCatalog, IsRefusedCatalog}
 use Rattle.prairie_top.specs.Run.{Fetches, Puts, Names, Command, plan, Means, ArePlanWords}
 use Rattle.prairie_top.specs.Sources.{AllFetched, IsRead, Chain}
 use Rattle.prairie_top.specs.Sources as sources
-use Rattle.prairie_top.specs.Outcome.{Outcome, planned, unplanned, IsOutcome, outcome_status, outcome_text, rules_source, catalog_source, query_source, Decides, CatalogComes, RulesComes, PlanComes, CommandComes, Comes, unknown, wanting, known, PutsAll, PutsOnce, Ends}
-use Rattle.prairie_top.specs.Laws.{OneAnswer, OneText, HasOneText, EndsPlanned, Complete, IsHeld, NeverFails, NeverUnwritten}
+use Rattle.prairie_top.specs.Outcome.{Outcome, planned, unplanned, IsOutcome, outcome_status, outcome_text, rules_source, catalog_source, query_source, Decides, CatalogComes, RulesComes, PlanComes, CommandComes, Comes, unknown, wanting, known, PutsAll, PutsOnce}
+use Rattle.prairie_top.specs.Laws.{OneAnswer, OneText, HasOneText, EndsPlanned, Complete, NeverFails, NeverUnwritten}
 use Rattle.prairie_top.proofs.ChainLaws.{some_is, Settles, One, IsClear, chain_settles, chain_one, chain_complete, chain_sure, chain_text}
 
 -- what the layers below say of texts
@@ -51,6 +50,9 @@ record IsApart {V : Type 0} (g : Grammar V) : Type 1 where
 true_not_false : (b : _) → b ≡ true → b ≡ false → ⊥
 true_not_false b t f = let clash : true ≡ false = sym t ∙ f in cc clash
 
+none_not_some : {A : Type 0} {x : A} (o : Option A) → o ≡ None → o ≡ Some x → ⊥
+none_not_some {A} {x} o n s = let clash : None ≡ Some x = sym n ∙ s in cc clash
+
 rules_not_both : (r : Rules) (refusal : Refusal) → (refused_by r ≡ None) × (is_planned r ≡ true) → IsRefusedRules r refusal → ⊥
 rules_not_both r (NotAccepted kind name) accepts refuses = let clash : None ≡ Some (record { kind = kind; name = name }) = sym accepts.0 ∙ refuses in cc clash
 rules_not_both r Unbuilt accepts refuses = true_not_false _ accepts.1 refuses.1
@@ -62,6 +64,30 @@ rules_not_both r (BadSyntax at) accepts refuses = refuses
 rules_not_both r (TooDeep at) accepts refuses = refuses
 rules_not_both r NotJson accepts refuses = refuses
 rules_not_both r (BadShape part) accepts refuses = refuses
+rules_not_both r TooManyNodes accepts refuses = refuses
+rules_not_both r (UnknownOperator name) accepts refuses = refuses
+rules_not_both r (UnknownFile name) accepts refuses = refuses
+rules_not_both r (Arity name) accepts refuses = refuses
+rules_not_both r (UnknownProperty name) accepts refuses = refuses
+rules_not_both r (WrongType name) accepts refuses = refuses
+
+query_not_both : (r : Rules) (c : Catalog) (q : Query) (refusal : Refusal) → refusal_of r c q ≡ None → IsRefusedQuery r c q refusal → ⊥
+query_not_both r c q TooManyNodes accepts refuses = none_not_some _ accepts refuses
+query_not_both r c q (UnknownOperator name) accepts refuses = none_not_some _ accepts refuses
+query_not_both r c q (UnknownFile name) accepts refuses = none_not_some _ accepts refuses
+query_not_both r c q (Arity name) accepts refuses = none_not_some _ accepts refuses
+query_not_both r c q (UnknownProperty name) accepts refuses = none_not_some _ accepts refuses
+query_not_both r c q (WrongType name) accepts refuses = none_not_some _ accepts refuses
+query_not_both r c q TooLong accepts refuses = refuses
+query_not_both r c q (BadByte at) accepts refuses = refuses
+query_not_both r c q (NumberTooBig at) accepts refuses = refuses
+query_not_both r c q (NameTooLong at) accepts refuses = refuses
+query_not_both r c q (BadSyntax at) accepts refuses = refuses
+query_not_both r c q (TooDeep at) accepts refuses = refuses
+query_not_both r c q NotJson accepts refuses = refuses
+query_not_both r c q (BadShape part) accepts refuses = refuses
+query_not_both r c q (NotAccepted kind name) accepts refuses = refuses
+query_not_both r c q Unbuilt accepts refuses = refuses
 
 rules_apart : Laws → IsApart rules_grammar
 rules_apart laws = record {
@@ -72,7 +98,7 @@ rules_apart laws = record {
 query_apart : Laws → (r : Rules) (c : Catalog) → IsApart (query_grammar r c)
 query_apart laws r c = record {
   distinct = λ v w ts a b. laws.queries v w a.spelled b.spelled (sym a.tokens ∙ b.tokens);
-  apart = λ v refusal accepts refuses. true_not_false _ accepts refuses.1;
+  apart = query_not_both r c;
 }
 
 module _ (laws : Laws) {V : Type 0} (g : Grammar V) (apart : IsApart g) where
@@ -90,6 +116,12 @@ module _ (laws : Laws) {V : Type 0} (g : Grammar V) (apart : IsApart g) where
   tokens_not_missing (BadShape part) bytes ts has why = why
   tokens_not_missing (NotAccepted kind name) bytes ts has why = why
   tokens_not_missing Unbuilt bytes ts has why = why
+  tokens_not_missing TooManyNodes bytes ts has why = why
+  tokens_not_missing (UnknownOperator name) bytes ts has why = why
+  tokens_not_missing (UnknownFile name) bytes ts has why = why
+  tokens_not_missing (Arity name) bytes ts has why = why
+  tokens_not_missing (UnknownProperty name) bytes ts has why = why
+  tokens_not_missing (WrongType name) bytes ts has why = why
 
   read_not_refused : (v : V) (refusal : Refusal) (bytes : List ℕ) → Reads g v bytes → IsRefusedText g refusal bytes → ⊥
   read_not_refused v refusal bytes (ts, has, spells, accepts) (no_tokens why) = tokens_not_missing refusal bytes ts has why
@@ -105,16 +137,14 @@ one_json bytes d e is is' = some_is e d (sym is'.1 ∙ is.1)
 
 -- and of one catalog
 same_catalog : Laws → (c d : Catalog) (bytes : List ℕ) → ReadsCatalog c bytes → ReadsCatalog d bytes → c ≡ d
-same_catalog laws c d bytes (e, json, whole, free, says) (f, json', whole', free', says') = laws.catalogs bytes e f c d json json' says says'
+same_catalog laws c d bytes (e, json, whole, says) (f, json', whole', says') = laws.catalogs bytes e f c d json json' says says'
 
 catalog_not_refused : (c : Catalog) (refusal : Refusal) (bytes : List ℕ) → ReadsCatalog c bytes → IsRefusedCatalog refusal bytes → ⊥
-catalog_not_refused c NotJson bytes (d, json, whole, free, says) none = none d json
-catalog_not_refused c (BadShape part) bytes (d, json, whole, free, says) (e, json', bad) =
+catalog_not_refused c NotJson bytes (d, json, whole, says) none = none d json
+catalog_not_refused c (BadShape part) bytes (d, json, whole, says) (e, json', bad) =
     let same : first_bad d ≡ Some part = subst (λ (x : Data). first_bad x ≡ Some part) (one_json bytes d e json json') bad in
     let clash : None ≡ Some part = sym whole ∙ same in
     cc clash
-catalog_not_refused c Unbuilt bytes (d, json, whole, free, says) (e, json', whole', files) =
-    files (subst (λ (x : Data). get (codes "files") x ≡ None) (sym (one_json bytes d e json json')) free)
 catalog_not_refused c TooLong bytes is why = why
 catalog_not_refused c (BadByte at) bytes is why = why
 catalog_not_refused c (NumberTooBig at) bytes is why = why
@@ -122,6 +152,13 @@ catalog_not_refused c (NameTooLong at) bytes is why = why
 catalog_not_refused c (BadSyntax at) bytes is why = why
 catalog_not_refused c (TooDeep at) bytes is why = why
 catalog_not_refused c (NotAccepted kind name) bytes is why = why
+catalog_not_refused c Unbuilt bytes is why = why
+catalog_not_refused c TooManyNodes bytes is why = why
+catalog_not_refused c (UnknownOperator name) bytes is why = why
+catalog_not_refused c (UnknownFile name) bytes is why = why
+catalog_not_refused c (Arity name) bytes is why = why
+catalog_not_refused c (UnknownProperty name) bytes is why = why
+catalog_not_refused c (WrongType name) bytes is why = why
 
 -- ---- the answers to `plan`
 

@@ -1,10 +1,9 @@
 -- What a text reads as, from what its tokens are.
-use Rattle.std.proofs.Common.{◌≡◌, ℕ, List, inl, inr, refl, subst}
-use Rattle.std.specs.Prelude.{◌⊎◌, Result, Ok, Err}
+use Rattle.std.proofs.Common.{ℕ, List, inl, inr, refl, subst}
+use Rattle.std.specs.Prelude.{Result, Ok, Err}
 use Rattle.pr_value.specs.Placed.{Placed, tokens_in}
 use Rattle.prairie_top.specs.Reading.{HasNoTokens, IsSyntax, Grammar, Reads, IsRefusedText, no_tokens, unread, refused}
 use Rattle.prairie_top.specs.Stages.{IsReading, ArePlaced, IsOfTokens}
-use Rattle.prairie_top.specs.declared.stage.Refusal.{Refusal}
 use Rattle.prairie_top.specs.declared.stage.TextError.{TextError}
 use Rattle.prairie_top.specs.declared.stage.TextError.TheVariants as text_error
 

@@ -1,18 +1,17 @@
--- The rule sets and queries that are planned.
-use Rattle.std.specs.Prelude.{ℕ, ◌+◌, Bool, true, false, ◌&&◌, nat_le, List, [], ◌∷◌, length, map, codes}
+-- The rule sets that are planned.
+use Rattle.std.specs.Prelude.{Bool, true, false, ◌&&◌, List, [], ◌∷◌, map, codes}
 use Rattle.std.specs.List.{list_all}
 use Rattle.std.specs.Str.{bytes_eq}
 use Rattle.pr_value.specs.Symbols.{Symbol}
 use Rattle.pr_value.specs.SymbolSets.{contains}
-use Rattle.pr_value.specs.Trees.{Tree, node, Trees, nil, cons, list_of}
+use Rattle.pr_value.specs.Trees.{Tree, node, list_of}
 use Rattle.rule_syntax.specs.declared.expr.BinOp.TheVariants as op
 use Rattle.pr_value.specs.declared.property.Property.{Property}
 use Rattle.rule_syntax.specs.declared.sides.AlgName.{AlgName}
 use Rattle.rule_syntax.specs.declared.sides.AlgName.TheVariants as alg
 use Rattle.rule_syntax.specs.declared.sides.ImplSide.{ImplSide}
 use Rattle.rule_syntax.specs.CostForms.{is_cost}
-use Rattle.rule_syntax.specs.Syntax.{Expr, number, truth, read, binary, Stmt, set, LeftLabel, QueryLabel, Operator, IRule, Rules, Query}
-use Rattle.rule_types.specs.Conditions.{takes}
+use Rattle.rule_syntax.specs.Syntax.{Expr, number, truth, read, binary, Stmt, set, LeftLabel, IRule, Rules}
 
 abbrev pub is_empty : {A : Type 0} → List A → Bool
 is_empty [] = true
@@ -71,30 +70,3 @@ abbrev pub is_planned : Rules → Bool
 is_planned r =
     is_cost_alone r.properties && is_empty r.helpers && is_empty r.trules &&
     list_all (λ o. is_empty o.init) r.operators && list_all is_plain_rule r.irules
-
-abbrev pub most_nodes : ℕ
-most_nodes = 256
-
-abbrev mutual
-  pub nodes : Query → ℕ
-  nodes (node l qs) = 1 + nodes_of qs
-
-  pub nodes_of : Trees QueryLabel → ℕ
-  nodes_of nil = 0
-  nodes_of (cons q qs) = nodes q + nodes_of qs
-
--- no settings, and declared operators with as many inputs as they declare
-module _ (operators : List Operator) where
-  abbrev mutual
-    pub fits : Query → Bool
-    fits (node (QueryLabel.file f) qs) = true
-    fits (node (QueryLabel.operator o settings) qs) =
-        is_empty settings && takes operators o (length (list_of qs)) && all_fit qs
-
-    pub all_fit : Trees QueryLabel → Bool
-    all_fit nil = true
-    all_fit (cons q qs) = fits q && all_fit qs
-
--- at most 256 nodes that fit
-abbrev pub is_planned_query : Rules → Query → Bool
-is_planned_query r q = nat_le (nodes q) most_nodes && fits r.operators q

@@ -1,7 +1,6 @@
 -- What the bytes of a text read as, and why they are refused for what they say.
-use Rattle.std.specs.Prelude.{◌≡◌, ℕ, true, false, ◌++◌, List, [], ◌∷◌, length, map, codes, Some, None, ◌≢◌}
+use Rattle.std.specs.Prelude.{◌≡◌, ℕ, true, false, List, length, map, Some, None}
 use Rattle.serde_json.specs.Data.{Data}
-use Rattle.serde_json.specs.Find.{get}
 use Rattle.catalog.specs.Contents.{Catalog}
 use Rattle.catalog.specs.Shape.{IsJson, first_bad, Says}
 use Rattle.pr_value.specs.declared.token.Token.{Token}
@@ -11,9 +10,11 @@ use Rattle.rule_syntax.specs.Syntax.{Rules, Query}
 use Rattle.rule_syntax.specs.Tokens.{Text}
 use Rattle.rule_syntax.specs.Places.{IsPlace}
 use Rattle.rule_syntax.specs.Levels.{IsRules, IsQuery}
-use Rattle.prairie_top.specs.Form.{is_planned, is_planned_query}
+use Rattle.query_tree.specs.Refusals.{refusal_of}
+use Rattle.query_tree.specs.declared.refusal.QueryRefusal.TheVariants as told
+use Rattle.prairie_top.specs.Form.{is_planned}
 use Rattle.prairie_top.specs.declared.stage.Refusal.{Refusal}
-use Rattle.prairie_top.specs.declared.stage.Refusal.TheVariants.{BadByte, NumberTooBig, NameTooLong, BadSyntax, TooDeep, NotJson, BadShape, NotAccepted, Unbuilt}
+use Rattle.prairie_top.specs.declared.stage.Refusal.TheVariants.{BadByte, NumberTooBig, NameTooLong, BadSyntax, TooDeep, NotJson, BadShape, NotAccepted, TooManyNodes, UnknownOperator, UnknownFile, Arity, UnknownProperty, WrongType, Unbuilt}
 use Rattle.rule_types.specs.Conditions.{refused_by}
 
 -- the text has these tokens, wherever they stand
@@ -68,24 +69,30 @@ rules_grammar = record {
   Refuses = IsRefusedRules;
 }
 
--- queries, of which those are accepted that are planned with these rules and this catalog
+-- the query builds no tree under the rules and the catalog, for this reason
+abbrev pub IsRefusedQuery : Rules → Catalog → Query → Refusal → Type 0
+IsRefusedQuery r c q TooManyNodes = refusal_of r c q ≡ Some told.TooManyNodes
+IsRefusedQuery r c q (UnknownOperator name) = refusal_of r c q ≡ Some (told.UnknownOperator name)
+IsRefusedQuery r c q (UnknownFile name) = refusal_of r c q ≡ Some (told.UnknownFile name)
+IsRefusedQuery r c q (Arity name) = refusal_of r c q ≡ Some (told.Arity name)
+IsRefusedQuery r c q (UnknownProperty name) = refusal_of r c q ≡ Some (told.UnknownProperty name)
+IsRefusedQuery r c q (WrongType name) = refusal_of r c q ≡ Some (told.WrongType name)
+IsRefusedQuery r c q _ = ⊥
+
+-- queries, of which those are accepted that build a tree under these rules and this catalog
 abbrev pub query_grammar : Rules → Catalog → Grammar Query
 query_grammar r c = record {
   Spells = IsQuery;
-  Accepts = λ q. is_planned_query r q ≡ true;
-  Refuses = λ q refusal. (refusal ≡ Unbuilt) × (is_planned_query r q ≡ false);
+  Accepts = λ q. refusal_of r c q ≡ None;
+  Refuses = IsRefusedQuery r c;
 }
 
--- the bytes are the JSON text of this catalog, which lists no files
+-- the bytes are the JSON text of this catalog
 abbrev pub ReadsCatalog : Catalog → List ℕ → Type 0
-ReadsCatalog c bytes =
-    (d : Data) × IsJson bytes d × (first_bad d ≡ None) × (get (codes "files") d ≡ None) × Says c d
+ReadsCatalog c bytes = (d : Data) × IsJson bytes d × (first_bad d ≡ None) × Says c d
 
--- the bytes are no JSON; or have this first part that is not as it must be; or are a catalog that
--- lists files
+-- the bytes are no JSON; or have this first part that is not as it must be
 abbrev pub IsRefusedCatalog : Refusal → List ℕ → Type 0
 IsRefusedCatalog NotJson bytes = (d : Data) → IsJson bytes d → ⊥
 IsRefusedCatalog (BadShape part) bytes = (d : Data) × IsJson bytes d × (first_bad d ≡ Some part)
-IsRefusedCatalog Unbuilt bytes =
-    (d : Data) × IsJson bytes d × (first_bad d ≡ None) × (get (codes "files") d ≢ None)
 IsRefusedCatalog _ bytes = ⊥

@@ -13,11 +13,13 @@ use Rattle.prairie_top.specs.Run.{Fetches, Told}
 use Rattle.prairie_top.specs.Reading.{Grammar, IsSyntax}
 use Rattle.prairie_top.specs.Sources.{Within}
 use Rattle.prairie_top.specs.declared.stage.Refusal.{Refusal}
-use Rattle.prairie_top.specs.declared.stage.Refusal.TheVariants.{TooLong, NotAccepted}
+use Rattle.prairie_top.specs.declared.stage.Refusal.TheVariants.{TooLong, NotAccepted, TooManyNodes, UnknownOperator, UnknownFile, Arity, UnknownProperty, WrongType}
 use Rattle.prairie_top.specs.declared.stage.Stop.{Stop}
 use Rattle.prairie_top.specs.declared.stage.Stop.TheVariants as stop
 use Rattle.prairie_top.specs.declared.stage.TextError.{TextError}
 use Rattle.prairie_top.specs.declared.stage.TextError.TheVariants as text_error
+use Rattle.query_tree.specs.declared.refusal.QueryRefusal.{QueryRefusal}
+use Rattle.query_tree.specs.declared.refusal.QueryRefusal.TheVariants as told
 use Rattle.rule_types.specs.declared.acceptance.AcceptError.{AcceptError}
 use Rattle.rule_types.specs.declared.acceptance.AcceptError.TheVariants as accept_error
 use Rattle.prairie_top.specs.declared.status.Status.{Status}
@@ -52,6 +54,15 @@ IsAccepting g view v (Err text_error.Memory) = ⊤
 abbrev pub of_accept_error : AcceptError → TextError
 of_accept_error (accept_error.Refused kind name) = text_error.Refused (NotAccepted kind name)
 of_accept_error accept_error.Memory = text_error.Memory
+
+abbrev pub of_query_refusal : QueryRefusal → TextError
+of_query_refusal told.TooManyNodes = text_error.Refused TooManyNodes
+of_query_refusal (told.UnknownOperator name) = text_error.Refused (UnknownOperator name)
+of_query_refusal (told.UnknownFile name) = text_error.Refused (UnknownFile name)
+of_query_refusal (told.Arity name) = text_error.Refused (Arity name)
+of_query_refusal (told.UnknownProperty name) = text_error.Refused (UnknownProperty name)
+of_query_refusal (told.WrongType name) = text_error.Refused (WrongType name)
+of_query_refusal told.Memory = text_error.Memory
 
 -- what is held under the name is within the limit and reads as this, or is refused, or could not be
 -- read, or memory was wanting

@@ -1,22 +1,17 @@
-// The rule sets and queries that are planned.
-ghost use Rattle.std.specs.Prelude.{◌≡◌, ◌&&◌, ◌==◌, min, map, length, codes};
+// The rule sets that are planned.
+ghost use Rattle.std.specs.Prelude.{◌≡◌, ◌&&◌, map, codes};
 ghost use Rattle.std.specs.List.{list_all};
 ghost use Rattle.std.specs.Str.{bytes_eq};
 ghost use Rattle.pr_value.specs.SymbolSets.{contains};
-ghost use Rattle.pr_value.specs.Trees.{trees_of};
-ghost use Rattle.rule_syntax.specs.Seen.{seen_expr, seen_stmt, seen_left, seen_left_in, seen_operator, seen_irule, seen_query};
+ghost use Rattle.rule_syntax.specs.Seen.{seen_expr, seen_stmt, seen_left, seen_left_in, seen_operator, seen_irule};
 ghost use Rattle.rule_syntax.specs.SeenRules.{seen_rules};
-ghost use Rattle.rule_types.specs.Conditions.{takes};
-ghost use Rattle.prairie_top.specs.Form.{is_empty, cost_name, is_cost_alone, is_stream, is_flat, is_named, is_true, is_sum, sets_cost, is_plain_rule, is_planned, nodes, nodes_of, fits, is_planned_query};
+ghost use Rattle.prairie_top.specs.Form.{is_empty, cost_name, is_cost_alone, is_stream, is_flat, is_named, is_true, is_sum, sets_cost, is_plain_rule, is_planned};
 
 use pr_value::Symbol;
 use rule_syntax::{
-    AlgName, BinOp, Expr, IRule, ImplIn, ImplSide, Left, LeftIn, Operator, Property, QueryText,
-    Rules, Setting, Stmt, is_cost,
+    AlgName, BinOp, Expr, IRule, ImplIn, ImplSide, Left, LeftIn, Operator, Property, Rules, Stmt,
+    is_cost,
 };
-
-/// The most nodes of a query.
-const MOST_NODES: usize = 256;
 
 fn is_empty<T>(items: &[T]) -> bool
     ensures { result ≡ is_empty items.now }
@@ -169,87 +164,4 @@ pub fn is_planned(rules: &Rules) -> bool
         && is_empty(rules.trules.as_slice())
         && have_no_initializers(rules.operators.as_slice())
         && are_plain_rules(rules.irules.as_slice())
-}
-
-/// The number of nodes, or one more than may be where there are more.
-#[cycle(nodes)]
-fn nodes(query: &QueryText) -> usize
-    ensures { result ≡ min (nodes (seen_query query.now)) 257 }
-{
-    match query {
-        QueryText::File(_) => 1,
-        QueryText::Node { inputs, .. } => (1 + nodes_of(inputs.as_slice())).min(MOST_NODES + 1),
-    }
-}
-
-#[cycle(nodes)]
-fn nodes_of(queries: &[QueryText]) -> usize
-    ensures { result ≡ min (nodes_of (trees_of (map seen_query queries.now))) 257 }
-{
-    let mut count = 0;
-    for query in queries {
-        count = (count + nodes(query)).min(MOST_NODES + 1);
-    }
-    count
-}
-
-fn is_operator(operator: &Operator, name: &Symbol, inputs: usize) -> bool
-    ensures { result ≡
-        (bytes_eq operator.now.name name.now && length operator.now.views == inputs) }
-{
-    operator.name == *name && operator.views.len() == inputs
-}
-
-/// Whether an operator of this name has so many inputs.
-fn has_operator(operators: &[Operator], name: &Symbol, inputs: usize) -> bool
-    ensures { result ≡ takes (map seen_operator operators.now) name.now inputs }
-{
-    operators.iter().any(|o| is_operator(o, name, inputs))
-}
-
-/// Whether it is a use of a declared operator with as many inputs as it declares, and no settings.
-fn is_plain_use(operators: &[Operator], op: &Symbol, settings: &[Setting], inputs: usize) -> bool
-    ensures { result ≡
-        (is_empty settings.now && takes (map seen_operator operators.now) op.now inputs) }
-{
-    is_empty(settings) && has_operator(operators, op, inputs)
-}
-
-/// Whether each node is a file, or a declared operator with as many inputs as it declares, and
-/// none has settings.
-#[cycle(fits)]
-fn fits(operators: &[Operator], query: &QueryText) -> bool
-    ensures { result ≡ fits (map seen_operator operators.now) (seen_query query.now) }
-{
-    match query {
-        QueryText::File(_) => true,
-        QueryText::Node {
-            op,
-            settings,
-            inputs,
-        } => {
-            is_plain_use(operators, op, settings.as_slice(), inputs.len())
-                && all_fit(operators, inputs.as_slice())
-        }
-    }
-}
-
-#[cycle(fits)]
-fn all_fit(operators: &[Operator], queries: &[QueryText]) -> bool
-    ensures { result ≡ list_all
-        (λ q. fits (map seen_operator operators.now) (seen_query q)) queries.now }
-{
-    for query in queries {
-        if !fits(operators, query) {
-            return false;
-        }
-    }
-    true
-}
-
-/// Whether the query has few enough nodes, and each fits the rule set.
-pub fn is_planned_query(rules: &Rules, query: &QueryText) -> bool
-    ensures { result ≡ is_planned_query (seen_rules rules.now) (seen_query query.now) }
-{
-    nodes(query) <= MOST_NODES && fits(rules.operators.as_slice(), query)
 }

@@ -1,5 +1,5 @@
 ghost use Rattle.std.specs.Prelude.{◌≡◌, ◌++◌, [], codes, OnOk};
-ghost use Rattle.prairie_top.specs.Messages.{at_offset, part_name, condition_name, refusal_name, refusal_text, fault_text};
+ghost use Rattle.prairie_top.specs.Messages.{at_offset, with_name, part_name, condition_name, refusal_name, refusal_text, fault_text};
 
 use crate::stage::Refusal;
 use catalog::CatalogPart;
@@ -44,7 +44,16 @@ fn push_kind(alloc: Global, refusal: Refusal, text: &mut Text) -> Result<(), Mem
             Ok(())
         }
         Refusal::BadShape { part } => push_part(part, text),
-        Refusal::NotAccepted { kind, name } => push_condition(kind, &name, text),
+        Refusal::NotAccepted { kind, name } => push_named(name_of_condition(kind), &name, text),
+        Refusal::TooManyNodes => {
+            text.push_bytes(b"TooManyNodes -")?;
+            Ok(())
+        }
+        Refusal::UnknownOperator { name } => push_named(b"UnknownOperator", &name, text),
+        Refusal::UnknownFile { name } => push_named(b"UnknownFile", &name, text),
+        Refusal::Arity { name } => push_named(b"Arity", &name, text),
+        Refusal::UnknownProperty { name } => push_named(b"UnknownProperty", &name, text),
+        Refusal::WrongType { name } => push_named(b"WrongType", &name, text),
         Refusal::Unbuilt => {
             text.push_bytes(b"Unbuilt")?;
             Ok(())
@@ -72,10 +81,10 @@ fn name_of_part(part: CatalogPart) -> &'static [u8]
     }
 }
 
-fn push_condition(kind: RefusalKind, name: &Symbol, text: &mut Text) -> Result<(), Memory>
-    ensures { OnOk result (text.new ≡ text.old ++ condition_name kind ++ codes " " ++ name.now) }
+fn push_named(kind: &[u8], name: &Symbol, text: &mut Text) -> Result<(), Memory>
+    ensures { OnOk result (text.new ≡ text.old ++ with_name kind.now name.now) }
 {
-    text.push_bytes(name_of_condition(kind))?;
+    text.push_bytes(kind)?;
     text.push_bytes(b" ")?;
     text.push_bytes(name.as_slice())?;
     Ok(())
@@ -97,6 +106,18 @@ fn name_of_condition(kind: RefusalKind) -> &'static [u8]
         RefusalKind::StreamOrder => b"StreamOrder",
         RefusalKind::TooManyNodes => b"TooManyNodes",
         RefusalKind::LeftNotFlat => b"LeftNotFlat",
+        RefusalKind::CopyPlace => b"CopyPlace",
+        RefusalKind::AssignTarget => b"AssignTarget",
+        RefusalKind::InputInPost => b"InputInPost",
+        RefusalKind::CostAssigned => b"CostAssigned",
+        RefusalKind::CostMissing => b"CostMissing",
+        RefusalKind::CostRead => b"CostRead",
+        RefusalKind::CostForm => b"CostForm",
+        RefusalKind::NullForm => b"NullForm",
+        RefusalKind::EnforcerLeft => b"EnforcerLeft",
+        RefusalKind::EnforcerRoot => b"EnforcerRoot",
+        RefusalKind::PhysicalInTRule => b"PhysicalInTRule",
+        RefusalKind::InputNotPhysical => b"InputNotPhysical",
     }
 }
 

@@ -5,13 +5,16 @@ ghost use Rattle.rule_syntax.specs.Seen.{seen_query};
 ghost use Rattle.rule_syntax.specs.SeenRules.{seen_rules};
 ghost use Rattle.rule_syntax.specs.Tokens.{Text as SeenText};
 ghost use Rattle.prairie_top.specs.Reading.{HasNoTokens, Reads, IsRefusedText, rules_grammar, query_grammar, ReadsCatalog, IsRefusedCatalog};
-ghost use Rattle.prairie_top.specs.Stages.{IsReading, ArePlaced, IsOfTokens, IsAccepting, of_accept_error};
+ghost use Rattle.prairie_top.specs.Stages.{IsReading, ArePlaced, IsOfTokens, IsAccepting, of_accept_error, of_query_refusal};
+ghost use Rattle.property_classes.specs.Classes.{classes_of};
 
-use crate::form::{is_planned, is_planned_query};
+use crate::form::is_planned;
 use crate::source::FromText;
 use crate::stage::{Refusal, TextError};
 use catalog::{Catalog, CatalogError, read_catalog};
 use pr_value::{Memory, Tokens};
+use property_classes::Classes;
+use query_tree::{QueryRefusal, build};
 use rule_lex::{LexError, tokens};
 use rule_syntax::{QueryText, Rules, SyntaxError, read_query, read_rules};
 use rule_types::{AcceptError, Accepted, accept};
@@ -74,19 +77,44 @@ fn rules_of(alloc: Global, ts: &Tokens) -> Result<Accepted, TextError>
 /// The query of these tokens, where it is planned with the rules.
 fn query_of(alloc: Global, under: &Under<'_>, ts: &Tokens) -> Result<QueryText, TextError>
     ensures { IsOfTokens
-        (query_grammar (seen_rules under.now.rules.now) under.now.catalog.now) seen_query
+        (query_grammar (seen_rules under.now.accepted.now.rules) under.now.catalog.now) seen_query
         ts.now result }
 {
     match read_query(alloc, ts) {
-        Ok(query) => {
-            if is_planned_query(under.rules, &query) {
-                return Ok(query);
-            }
-            Err(TextError::Refused(Refusal::Unbuilt))
-        }
+        Ok(query) => built(alloc, under, query),
         Err(SyntaxError::BadSyntax { at }) => Err(TextError::Refused(Refusal::BadSyntax { at })),
         Err(SyntaxError::TooDeep { at }) => Err(TextError::Refused(Refusal::TooDeep { at })),
         Err(SyntaxError::Memory) => Err(TextError::Memory),
+    }
+}
+
+/// The query, where it builds a tree.
+fn built(alloc: Global, under: &Under<'_>, query: QueryText) -> Result<QueryText, TextError>
+    ensures { IsAccepting
+        (query_grammar (seen_rules under.now.accepted.now.rules) under.now.catalog.now) seen_query
+        (seen_query query) result }
+{
+    match build(alloc, under.accepted, under.classes, under.catalog, &query) {
+        Ok(_tree) => Ok(query),
+        Err(refusal) => Err(not_built(refusal)),
+    }
+}
+
+fn not_built(refusal: QueryRefusal) -> TextError
+    ensures { result ≡ of_query_refusal refusal }
+{
+    match refusal {
+        QueryRefusal::TooManyNodes => TextError::Refused(Refusal::TooManyNodes),
+        QueryRefusal::UnknownOperator { name } => {
+            TextError::Refused(Refusal::UnknownOperator { name })
+        }
+        QueryRefusal::UnknownFile { name } => TextError::Refused(Refusal::UnknownFile { name }),
+        QueryRefusal::Arity { name } => TextError::Refused(Refusal::Arity { name }),
+        QueryRefusal::UnknownProperty { name } => {
+            TextError::Refused(Refusal::UnknownProperty { name })
+        }
+        QueryRefusal::WrongType { name } => TextError::Refused(Refusal::WrongType { name }),
+        QueryRefusal::Memory => TextError::Memory,
     }
 }
 
@@ -110,12 +138,7 @@ impl FromText<()> for Catalog {
 
     fn from_text(alloc: Global, _context: &(), text: &[u8]) -> Result<Catalog, TextError> {
         match read_catalog(alloc, text) {
-            Ok(catalog) => {
-                if catalog.lists_files() {
-                    return Err(TextError::Refused(Refusal::Unbuilt));
-                }
-                Ok(catalog)
-            }
+            Ok(catalog) => Ok(catalog),
             Err(CatalogError::NotJson) => Err(TextError::Refused(Refusal::NotJson)),
             Err(CatalogError::BadShape { part }) => {
                 Err(TextError::Refused(Refusal::BadShape { part }))
@@ -128,14 +151,16 @@ impl FromText<()> for Catalog {
 /// What a query is read under.
 #[derive(Clone, Copy)]
 pub struct Under<'a> {
-    pub rules: &'a Rules,
+    pub accepted: &'a Accepted,
+    pub classes: &'a Classes,
     pub catalog: &'a Catalog,
+    pub ghost classed: { classes.now ≡ classes_of (seen_rules accepted.now.rules) },
 }
 
 impl<'a> FromText<Under<'a>> for QueryText {
-    ghost reads = { λ u q. Reads (query_grammar (seen_rules u.rules.now) u.catalog.now) (seen_query q) };
+    ghost reads = { λ u q. Reads (query_grammar (seen_rules u.accepted.now.rules) u.catalog.now) (seen_query q) };
 
-    ghost refuses = { λ u. IsRefusedText (query_grammar (seen_rules u.rules.now) u.catalog.now) };
+    ghost refuses = { λ u. IsRefusedText (query_grammar (seen_rules u.accepted.now.rules) u.catalog.now) };
 
     fn from_text(alloc: Global, under: &Under<'a>, text: &[u8]) -> Result<QueryText, TextError> {
         match tokens_of(alloc, text) {

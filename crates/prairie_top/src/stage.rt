@@ -24,7 +24,20 @@ pub enum Refusal {
     /// It is a rule set that is not accepted: the first condition that holds, and the name of the
     /// first declaration in which it does.
     NotAccepted { kind: RefusalKind, name: Symbol },
-    /// It is read, and is not of the form that is planned.
+    /// It is a query of more than 256 nodes.
+    TooManyNodes,
+    /// It is a query with an operator that the rules do not declare.
+    UnknownOperator { name: Symbol },
+    /// It is a query over a file that the catalog does not list, though it lists files.
+    UnknownFile { name: Symbol },
+    /// It is a query with an operator over another number of inputs than is declared.
+    Arity { name: Symbol },
+    /// It is a query that sets a property which the rules do not declare.
+    UnknownProperty { name: Symbol },
+    /// It is a query that sets a property, or uses a file, to which a value of another type is
+    /// given, or one for the cost.
+    WrongType { name: Symbol },
+    /// It is an accepted rule set, and is not of the form that is planned.
     Unbuilt,
 }
 

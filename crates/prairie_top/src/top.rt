@@ -1,5 +1,6 @@
 ghost use Rattle.std.specs.Prelude.{◌≡◌, ◌≢◌, ◌≤◌, [], IfOk};
 ghost use Rattle.prairie_top.specs.Outcome.{PlanComes, RulesComes, CatalogComes, Comes, PutsOnce, Ends};
+ghost use Rattle.property_classes.specs.Classes.{classes_of};
 ghost use Rattle.rule_syntax.specs.Seen.{seen_query};
 ghost use Rattle.rule_syntax.specs.SeenRules.{seen_rules};
 ghost use Rattle.prairie_top.specs.SeenNames.{seen_names};
@@ -17,6 +18,7 @@ use crate::words::plan_words;
 use catalog::Catalog;
 use pr_outside::{Name, PutError, Shelf, Sink};
 use pr_value::{Memory, Text};
+use property_classes::Classes;
 use rule_syntax::{QueryText, Rules};
 use rule_types::Accepted;
 use std::alloc::Global;
@@ -151,7 +153,7 @@ fn planned<F: Shelf>(
         }) came text.new) }
 {
     match source::<F, (), Accepted>(alloc, shelf, names.rules, TEXT_LIMIT, &()) {
-        Ok(accepted) => with_rules(alloc, &accepted.rules, names, shelf, text),
+        Ok(accepted) => with_rules(alloc, &accepted, names, shelf, text),
         Err(stop) => stopped(alloc, b"rules", names.rules, stop, text),
     }
 }
@@ -159,7 +161,7 @@ fn planned<F: Shelf>(
 /// What `plan` comes to once the rules are read.
 fn with_rules<F: Shelf>(
     alloc: Global,
-    rules: &Rules,
+    accepted: &Accepted,
     names: &Names<'_>,
     shelf: &mut F,
     text: &mut Text,
@@ -168,7 +170,36 @@ fn with_rules<F: Shelf>(
     ensures held { F.held shelf.new ≡ F.held shelf.old }
     ensures sure { F.sure shelf.new ≡ F.sure shelf.old }
     ensures counted { F.faults shelf.old ≤ F.faults shelf.new }
-    ensures comes { IfOk result (λ came. RulesComes (seen_rules rules.now) (seen_names names.now)
+    ensures comes { IfOk result
+        (λ came. RulesComes (seen_rules accepted.now.rules) (seen_names names.now)
+        (record {
+          held = F.held shelf.old;
+          sure = F.sure shelf.old;
+          before = F.faults shelf.old;
+          after = F.faults shelf.new;
+        }) came text.new) }
+{
+    let classes = Classes::of(alloc, &accepted.rules)?;
+    let came = with_classes(alloc, accepted, &classes, names, shelf, text)?;
+    Ok(came)
+}
+
+/// The same, once the classes of the properties are known.
+fn with_classes<F: Shelf>(
+    alloc: Global,
+    accepted: &Accepted,
+    classes: &Classes,
+    names: &Names<'_>,
+    shelf: &mut F,
+    text: &mut Text,
+) -> Result<Status, Memory>
+    requires classes { classes.now ≡ classes_of (seen_rules accepted.now.rules) }
+    requires empty { text.old ≡ [] }
+    ensures held { F.held shelf.new ≡ F.held shelf.old }
+    ensures sure { F.sure shelf.new ≡ F.sure shelf.old }
+    ensures counted { F.faults shelf.old ≤ F.faults shelf.new }
+    ensures comes { IfOk result
+        (λ came. RulesComes (seen_rules accepted.now.rules) (seen_names names.now)
         (record {
           held = F.held shelf.old;
           sure = F.sure shelf.old;
@@ -180,7 +211,8 @@ fn with_rules<F: Shelf>(
         Ok(catalog) => with_catalog(
             alloc,
             &Under {
-                rules,
+                accepted,
+                classes,
                 catalog: &catalog,
             },
             names,
@@ -205,7 +237,8 @@ fn with_catalog<F: Shelf>(
     ensures counted { F.faults shelf.old ≤ F.faults shelf.new }
     ensures comes { IfOk result
         (λ came.
-        CatalogComes (seen_rules under.now.rules.now) under.now.catalog.now (seen_names names.now)
+        CatalogComes (seen_rules under.now.accepted.now.rules) under.now.catalog.now
+        (seen_names names.now)
         (record {
           held = F.held shelf.old;
           sure = F.sure shelf.old;
@@ -214,7 +247,7 @@ fn with_catalog<F: Shelf>(
         }) came text.new) }
 {
     match source::<F, Under<'_>, QueryText>(alloc, shelf, names.query, TEXT_LIMIT, under) {
-        Ok(query) => decided(alloc, under.rules, &query, text),
+        Ok(query) => decided(alloc, &under.accepted.rules, &query, text),
         Err(stop) => stopped(alloc, b"query", names.query, stop, text),
     }
 }

@@ -1,13 +1,13 @@
 -- What the conditions say of small rule sets.
-use Rattle.std.proofs.Common.{◌≡◌, Bool, true, false, List, [], ◌∷◌, codes, Option, Some, None, refl}
+use Rattle.std.proofs.Common.{◌≡◌, true, false, List, [], ◌∷◌, codes, Some, None, refl}
 use Rattle.pr_value.specs.Symbols.{Symbol}
 use Rattle.pr_value.specs.Trees.{Tree, tree}
 use Rattle.pr_value.specs.declared.kind.Kind.{Kind}
 use Rattle.pr_value.specs.declared.kind.Kind.TheVariants as kind
 use Rattle.pr_value.specs.declared.property.Property.{Property}
-use Rattle.rule_syntax.specs.Syntax.{LeftLabel, Operator, Rules}
+use Rattle.rule_syntax.specs.Syntax.{LeftLabel, Rules}
 use Rattle.rule_types.specs.Conditions.{are_numbers_distinct, is_arity, refused, refused_by, same_numbers}
-use Rattle.rule_types.specs.Declarations.{Placed, placed}
+use Rattle.rule_types.specs.Declarations.{placed}
 use Rattle.rule_types.specs.Uses.{nodes, counts_left, streams}
 use Rattle.rule_types.specs.declared.refusal.RefusalKind.TheVariants as why
 

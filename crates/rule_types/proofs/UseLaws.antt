@@ -1,5 +1,5 @@
 -- How many arguments a call is given, and uses over equal parts.
-use Rattle.std.proofs.Common.{◌≡◌, ℕ, ◌+◌, List, [], ◌∷◌, length, map, refl, ap, ◌∙◌, arith}
+use Rattle.std.proofs.Common.{◌≡◌, List, [], ◌∷◌, length, map, refl, ap, ◌∙◌, arith}
 use Rattle.pr_value.specs.Symbols.{Symbol}
 use Rattle.pr_value.specs.declared.property.Property.{Property}
 use Rattle.rule_syntax.specs.Seen.{seen_expr, exprs_of}

@@ -6,8 +6,6 @@ use Rattle.std.specs.Str.{bytes_eq}
 use Rattle.pr_value.specs.Repeats.{are_distinct}
 use Rattle.pr_value.specs.Symbols.{Symbol}
 use Rattle.pr_value.specs.SymbolSets.{contains}
-use Rattle.pr_value.specs.Trees.{Tree}
-use Rattle.pr_value.specs.declared.kind.Kind.{Kind}
 use Rattle.pr_value.specs.declared.kind.Kind.TheVariants as kinds
 use Rattle.pr_value.specs.declared.property.Property.{Property}
 use Rattle.rule_syntax.specs.declared.parts.Algorithm.{Algorithm}
@@ -18,7 +16,8 @@ use Rattle.rule_syntax.specs.CostForms.{is_cost}
 use Rattle.rule_syntax.specs.Syntax.{LeftLabel, RightLabel, Operator, Helper, Body, TRule, IRule, Rules}
 use Rattle.rule_syntax.specs.Typing.{Context, Signature, builtins, is_builtin, helper_signature, signatures_of, params_context, type_of_kind, type_of, is_type, is_typed_stmt}
 use Rattle.rule_types.specs.Declarations.{Placed, Declaration, property, operator, algorithm, helper, trule, irule, declarations, declared_name, descs_of, params_of, helpers_of}
-use Rattle.rule_types.specs.Uses.{Use, variable, reading, calling, folding, assigning, copying, Question, uses, any_node, streams, nodes, counts_left, counts_right}
+use Rattle.rule_types.specs.LaterConditions.{copy_place, assign_target, input_in_post, cost_assigned, cost_missing, cost_read, cost_form, null_form, enforcer_left, enforcer_root, physical_in_trule, input_not_physical}
+use Rattle.rule_types.specs.Uses.{variable, reading, calling, folding, assigning, copying, Question, uses, any_node, streams, nodes, counts_left, counts_right}
 use Rattle.rule_types.specs.declared.refusal.Refused.{Refused}
 use Rattle.rule_types.specs.declared.refusal.RefusalKind.{RefusalKind}
 use Rattle.rule_types.specs.declared.refusal.RefusalKind.TheVariants as kind
@@ -285,6 +284,18 @@ holds kind.LeftStreamTwice r d = left_stream_twice d
 holds kind.StreamOrder r d = stream_order d
 holds kind.TooManyNodes r d = too_many_nodes d
 holds kind.LeftNotFlat r d = left_not_flat d
+holds kind.CopyPlace r d = copy_place d
+holds kind.AssignTarget r d = assign_target d
+holds kind.InputInPost r d = input_in_post d
+holds kind.CostAssigned r d = cost_assigned r d
+holds kind.CostMissing r d = cost_missing r d
+holds kind.CostRead r d = cost_read r d
+holds kind.CostForm r d = cost_form r d
+holds kind.NullForm r d = null_form r d
+holds kind.EnforcerLeft r d = enforcer_left r d
+holds kind.EnforcerRoot r d = enforcer_root r d
+holds kind.PhysicalInTRule r d = physical_in_trule r d
+holds kind.InputNotPhysical r d = input_not_physical r d
 
 -- the name of the first declaration in which the condition holds
 abbrev pub first_name : RefusalKind → Rules → Option Symbol
@@ -300,7 +311,9 @@ abbrev pub conditions : List RefusalKind
 conditions =
     kind.TooMany ∷ kind.TwoNames ∷ kind.NoCost ∷ kind.TwoCosts ∷ kind.UnknownName ∷ kind.WrongArity ∷
     kind.HelperCost ∷ kind.WrongType ∷ kind.LeftStreamTwice ∷ kind.StreamOrder ∷ kind.TooManyNodes ∷
-    kind.LeftNotFlat ∷ []
+    kind.LeftNotFlat ∷ kind.CopyPlace ∷ kind.AssignTarget ∷ kind.InputInPost ∷ kind.CostAssigned ∷
+    kind.CostMissing ∷ kind.CostRead ∷ kind.CostForm ∷ kind.NullForm ∷ kind.EnforcerLeft ∷
+    kind.EnforcerRoot ∷ kind.PhysicalInTRule ∷ kind.InputNotPhysical ∷ []
 
 abbrev pub refused : RefusalKind → Symbol → Refused
 refused k s = record { kind = k; name = s }

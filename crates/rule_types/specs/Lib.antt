@@ -1,8 +1,10 @@
 pub mod Acceptance
+pub mod AcceptedLaws
 pub mod BuiltinCounts
 pub mod Conditions
 pub mod Contexts
 pub mod Declarations
+pub mod LaterConditions
 pub mod Scopes
 pub mod SeenDeclarations
 pub mod SeenUses

@@ -6,6 +6,7 @@ ghost use Rattle.rule_types.specs.Conditions as spec;
 use crate::accepted::Accepted;
 use crate::refusal::{RefusalKind, Refused};
 use crate::refusing::refused_by;
+use descriptor_types::Layout;
 use pr_value::{Memory, Symbol};
 use rule_syntax::Rules;
 use std::alloc::Global;
@@ -26,6 +27,25 @@ impl Accepted {
     {
         &self.rules
     }
+
+    /// The properties in the order of declaration.
+    pub fn layout(&self) -> &Layout
+        ensures { result.now ≡ self.now.rules.properties }
+    {
+        &self.layout
+    }
+}
+
+/// The rule set with its layout, or as it was where memory is wanting.
+fn with_layout(alloc: Global, rules: Rules) -> Result<Accepted, (Rules, AcceptError)>
+    requires { spec.refused_by (seen_rules rules) ≡ None }
+    ensures accepted { IfOk result (λ a. a.rules ≡ rules) }
+    ensures back { IfErr result (λ e. e ≡ (rules, AcceptError.Memory)) }
+{
+    match Layout::of(alloc, rules.properties.as_slice()) {
+        Ok(layout) => Ok(Accepted { rules, layout }),
+        Err(Memory) => Err((rules, AcceptError::Memory)),
+    }
 }
 
 /// The rule set as an accepted one, or as it was, with the first condition that holds and the name
@@ -36,7 +56,7 @@ pub fn accept(alloc: Global, rules: Rules) -> Result<Accepted, (Rules, AcceptErr
     ensures refused { IfErr result (λ e. IsTold (spec.refused_by (seen_rules rules)) e.1) }
 {
     match refused_by(alloc, &rules) {
-        Ok(None) => Ok(Accepted { rules }),
+        Ok(None) => with_layout(alloc, rules),
         Ok(Some(Refused { kind, name })) => Err((rules, AcceptError::Refused { kind, name })),
         Err(Memory) => Err((rules, AcceptError::Memory)),
     }

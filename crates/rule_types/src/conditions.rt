@@ -1,7 +1,10 @@
 // The conditions of refusal, each as a question on one declaration.
 pub mod costs;
+pub mod enforcers;
 pub mod nodes;
+pub mod rule_costs;
 pub mod streams;
+pub mod targets;
 pub mod too_many;
 pub mod two_names;
 pub mod unknown_name;

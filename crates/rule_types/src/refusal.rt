@@ -30,6 +30,31 @@ pub enum RefusalKind {
     TooManyNodes,
     /// An I-rule with more than one operator on its left side.
     LeftNotFlat,
+    /// An I-rule with a whole copy.
+    CopyPlace,
+    /// A statement that changes another descriptor than that of a right node of a T-rule, of an
+    /// I-rule's algorithm or its inputs, or the operator's own.
+    AssignTarget,
+    /// An I-rule with a statement behind the test that changes an input of the algorithm.
+    InputInPost,
+    /// The cost is assigned elsewhere than in the last statement of an I-rule, to the algorithm.
+    CostAssigned,
+    /// An I-rule that does not end with that statement.
+    CostMissing,
+    /// The cost is read elsewhere than of an input of the algorithm in that statement.
+    CostRead,
+    /// An I-rule whose cost has none of the forms that a cost may have.
+    CostForm,
+    /// A rule to `Null` that does anything else behind its test than to pass on the input's cost.
+    NullForm,
+    /// A T-rule with an enforcer on its left side.
+    EnforcerLeft,
+    /// A T-rule with an enforcer at the root of its right side.
+    EnforcerRoot,
+    /// A T-rule that assigns a physical property of a right node that is no enforcer.
+    PhysicalInTRule,
+    /// An I-rule that assigns a property of an input of the algorithm that is not physical.
+    InputNotPhysical,
 }
 
 /// A condition that holds, and the name that is told with it.

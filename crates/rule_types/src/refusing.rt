@@ -10,11 +10,12 @@ use crate::declaration::Declaration;
 use crate::declarations::declarations;
 use crate::holds::first_name;
 use crate::refusal::{RefusalKind, Refused};
+use crate::roles::Roles;
 use pr_value::{Memory, Property, Symbol};
 use rule_syntax::Rules;
 use std::alloc::Global;
 
-const CONDITIONS: [RefusalKind; 12] = [
+const CONDITIONS: [RefusalKind; 24] = [
     RefusalKind::TooMany,
     RefusalKind::TwoNames,
     RefusalKind::NoCost,
@@ -27,6 +28,18 @@ const CONDITIONS: [RefusalKind; 12] = [
     RefusalKind::StreamOrder,
     RefusalKind::TooManyNodes,
     RefusalKind::LeftNotFlat,
+    RefusalKind::CopyPlace,
+    RefusalKind::AssignTarget,
+    RefusalKind::InputInPost,
+    RefusalKind::CostAssigned,
+    RefusalKind::CostMissing,
+    RefusalKind::CostRead,
+    RefusalKind::CostForm,
+    RefusalKind::NullForm,
+    RefusalKind::EnforcerLeft,
+    RefusalKind::EnforcerRoot,
+    RefusalKind::PhysicalInTRule,
+    RefusalKind::InputNotPhysical,
 ];
 
 fn no_cost(alloc: Global, properties: &[Property]) -> Result<Option<Symbol>, Memory>
@@ -52,17 +65,18 @@ fn copy_found(alloc: Global, name: Option<&Symbol>) -> Result<Option<Symbol>, Me
 fn named_by(
     alloc: Global,
     kind: RefusalKind,
-    rules: &Rules,
+    roles: &Roles,
     all: &[Declaration],
 ) -> Result<Option<Symbol>, Memory>
-    requires { map seen_declaration all.now ≡ declared.declarations (seen_rules rules.now) }
-    ensures { IfOk result (λ n. n ≡ spec.named_by kind (seen_rules rules.now)) }
+    requires { map seen_declaration all.now
+        ≡ declared.declarations (seen_rules roles.now.rules.now) }
+    ensures { IfOk result (λ n. n ≡ spec.named_by kind (seen_rules roles.now.rules.now)) }
 {
     if kind == RefusalKind::NoCost {
-        let name = no_cost(alloc, rules.properties.as_slice())?;
+        let name = no_cost(alloc, roles.rules.properties.as_slice())?;
         return Ok(name);
     }
-    let found = first_name(alloc, kind, rules, all)?;
+    let found = first_name(alloc, kind, roles, all)?;
     let name = copy_found(alloc, found)?;
     Ok(name)
 }
@@ -71,14 +85,15 @@ fn named_by(
 fn first_refused(
     alloc: Global,
     kinds: &[RefusalKind],
-    rules: &Rules,
+    roles: &Roles,
     all: &[Declaration],
 ) -> Result<Option<Refused>, Memory>
-    requires { map seen_declaration all.now ≡ declared.declarations (seen_rules rules.now) }
-    ensures { IfOk result (λ o. o ≡ spec.first_refused kinds.now (seen_rules rules.now)) }
+    requires { map seen_declaration all.now
+        ≡ declared.declarations (seen_rules roles.now.rules.now) }
+    ensures { IfOk result (λ o. o ≡ spec.first_refused kinds.now (seen_rules roles.now.rules.now)) }
 {
     for kind in kinds {
-        if let Some(name) = named_by(alloc, *kind, rules, all)? {
+        if let Some(name) = named_by(alloc, *kind, roles, all)? {
             return Ok(Some(Refused { kind: *kind, name }));
         }
     }
@@ -90,6 +105,7 @@ pub fn refused_by(alloc: Global, rules: &Rules) -> Result<Option<Refused>, Memor
     ensures { IfOk result (λ o. o ≡ spec.refused_by (seen_rules rules.now)) }
 {
     let all = declarations(alloc, rules)?;
-    let refused = first_refused(alloc, &CONDITIONS, rules, all.as_slice())?;
+    let roles = Roles::of(alloc, rules)?;
+    let refused = first_refused(alloc, &CONDITIONS, &roles, all.as_slice())?;
     Ok(refused)
 }

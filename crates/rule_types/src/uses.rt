@@ -124,7 +124,8 @@ fn any_use_in<Q: UseQuestion>(s: &Stmt, question: &Q) -> bool
     }
 }
 
-fn any_use_in_stmts<Q: UseQuestion>(ss: &[Stmt], question: &Q) -> bool
+/// Whether the question holds of some use in these statements.
+pub fn any_use_in_stmts<Q: UseQuestion>(ss: &[Stmt], question: &Q) -> bool
     ensures { result ≡ list_any (spec.any_use_in (Q.asked question.now)) (map seen_stmt ss.now) }
 {
     for s in ss {

@@ -1,7 +1,7 @@
 use Rattle.std.proofs.Common.{List, ℕ, ap, ◌∙◌, ◌++◌, refl}
 use Rattle.prairie_top.specs.Messages.{usage_text}
 use Rattle.prairie_top.specs.Outcome.{known, unknown}
-use Rattle.prairie_top.specs.Run.{Command, plan, Means, Names, ArePlanWords}
+use Rattle.prairie_top.specs.Run.{plan}
 use Rattle.prairie_top.specs.SeenNames.{seen_names}
 use Rattle.prairie_top.proofs.TopLaws.{no_command}
 use Rattle.prairie_top.proofs.top.answer.Goals as goal

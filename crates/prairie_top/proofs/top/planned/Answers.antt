@@ -1,4 +1,3 @@
-use Rattle.std.proofs.Common.{List, ℕ}
 use Rattle.rule_syntax.specs.SeenRules.{seen_rules}
 use Rattle.rule_types.specs.declared.accepted.Accepted.{Accepted}
 use Rattle.prairie_top.specs.Outcome.{RulesComes, PlanComes, rules_source}

@@ -14,7 +14,7 @@ use Rattle.prairie_top.proofs.top.with_catalog.Goals as goal
 pub returns-in-Ok-clause-comes : goal.returns-in-Ok-clause-comes
 returns-in-Ok-clause-comes g c =
     let names = seen_names c.args.names.now in
-    let r = seen_rules c.args.under.now.rules.now in
+    let r = seen_rules c.args.under.now.accepted.now.rules in
     let d = c.args.under.now.catalog.now in
     let q = seen_query c.in-Ok.query in
     let had = c.in-Ok.ensures.had in
@@ -25,7 +25,7 @@ returns-in-Ok-clause-comes g c =
 pub returns-in-Err-clause-comes : goal.returns-in-Err-clause-comes
 returns-in-Err-clause-comes g c =
     let names = seen_names c.args.names.now in
-    let r = seen_rules c.args.under.now.rules.now in
+    let r = seen_rules c.args.under.now.accepted.now.rules in
     let d = c.args.under.now.catalog.now in
     let whole : Fetches = record { held = g.F.Shelf.held c.args.shelf.now; sure = g.F.Shelf.sure c.args.shelf.now; before = g.F.Shelf.faults c.args.shelf.now; after = g.F.Shelf.faults c.source.new.shelf } in
     let source = query_source r d names.query in

@@ -10,6 +10,6 @@ use Rattle.rule_types.proofs.holds.first_name.Given as goal
 -- the rest decides
 abbrev pub invariant-loop-d : goal.invariant-loop-d
 invariant-loop-d l =
-    let test = holds l.kind (seen_rules l.rules) in
+    let test = holds l.kind (seen_rules l.roles.rules.now) in
     option_map declared_name (find test (map seen_declaration (drop l.d-index l.all)))
     ≡ option_map declared_name (find test (map seen_declaration l.all))

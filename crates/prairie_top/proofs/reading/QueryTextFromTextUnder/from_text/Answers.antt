@@ -6,4 +6,4 @@ use Rattle.prairie_top.proofs.reading.QueryTextFromTextUnder.from_text.Goals as 
 
 pub returns-in-Ok : goal.returns-in-Ok
 returns-in-Ok c =
-    read_tokens (query_grammar (seen_rules c.args.under.now.rules.now) c.args.under.now.catalog.now) seen_query c.args.text.now c.in-Ok.ts c.query_of.result c.in-Ok.ensures c.query_of.ensures
+    read_tokens (query_grammar (seen_rules c.args.under.now.accepted.now.rules) c.args.under.now.catalog.now) seen_query c.args.text.now c.in-Ok.ts c.query_of.result c.in-Ok.ensures c.query_of.ensures

@@ -1,0 +1,96 @@
+-- What is known of the rules of an accepted rule set.
+use Rattle.std.proofs.Common.{◌≡◌, ℕ, zero, suc, ◌<◌, Bool, true, false, not, List, [], ◌∷◌, length, map, get_or, Some, None, refl, ap, sym, subst, arith}
+use Rattle.std.specs.Cmp.{first_so, second_so}
+use Rattle.std.specs.List.{Contains, list_all}
+use Rattle.std.specs.Prelude.{◌&&◌, slice_get}
+use Rattle.std.proofs.lemmas.Bool.{false≢true}
+use Rattle.pr_value.specs.Repeats.{are_distinct}
+use Rattle.pr_value.specs.Symbols.{Symbol}
+use Rattle.rule_syntax.specs.CostForms.{cost_name, is_cost_form, reads_cost_of}
+use Rattle.rule_syntax.specs.Descs.{names_of, trule_descs, irule_descs}
+use Rattle.rule_syntax.specs.Syntax.{Expr, TRule, IRule, Rules}
+use Rattle.rule_syntax.specs.Typing.{Context, signatures_of, type_of, is_type}
+use Rattle.pr_value.specs.declared.kind.Kind.TheVariants as kind
+use Rattle.rule_types.proofs.AcceptedArities.{accepted-arities, accepted-known}
+use Rattle.rule_types.proofs.AcceptedCosts.{accepted-assigned, accepted-costs}
+use Rattle.rule_types.proofs.AcceptedNames.{accepted-descs, accepted-names}
+use Rattle.rule_types.proofs.AcceptedSides.{accepted-sides}
+use Rattle.rule_types.proofs.AcceptedTypes.{accepted-types}
+use Rattle.rule_types.specs.AcceptedLaws.{is_sound_irule}
+use Rattle.rule_types.specs.Conditions.{is_typed_body, operator_names, refused_by, same_numbers, unknown_in_trule, wrong_in_trule}
+use Rattle.rule_types.specs.LaterConditions.{assigns_cost, cost_of, holds_of}
+use Rattle.rule_types.specs.Uses.{any_use_of, streams}
+
+-- ---- what is asked of a rule
+
+abbrev pub is_sound_cost : Rules → IRule → Expr → Bool
+is_sound_cost r i e = is_cost_form (cost_name r.properties) e && reads_cost_of (cost_name r.properties) (names_of i.right.inputs) e
+
+abbrev pub over_names : List Symbol → Context
+over_names names = record { descs = names; vars = [] }
+
+abbrev pub is_typed_trule : Rules → TRule → Bool
+is_typed_trule r t = is_typed_body r.properties (signatures_of r.helpers) (over_names (trule_descs t)) t.body
+
+abbrev pub is_typed_irule : Rules → IRule → Bool
+is_typed_irule r i = is_typed_body r.properties (signatures_of r.helpers) (over_names (irule_descs i)) i.body
+
+abbrev pub is_number : Rules → IRule → Expr → Bool
+is_number r i e = is_type kind.Num (type_of r.properties (signatures_of r.helpers) (over_names (irule_descs i)) e)
+
+-- ---- of one rule
+
+pub accepted-operators : (r : Rules) → refused_by r ≡ None → are_distinct (operator_names r.operators) ≡ true
+accepted-operators r accepted = (accepted-names r accepted).operators
+
+pub passes-Contains : {X : Type 0} (p : X → Bool) (xs : List X) (x : X) → list_all p xs ≡ true → Contains xs x → p x ≡ true
+passes-Contains p [] x all (k, within, is) = absurd (omega (arith, within))
+passes-Contains p (y ∷ ys) x all (zero, within, is) = subst (λ z. p z ≡ true) is (first_so _ _ all)
+passes-Contains p (y ∷ ys) x all (suc k, within, is) = passes-Contains p ys x (second_so _ _ all) (k, omega (arith, within), is)
+
+-- what stands at a place
+pub contains-map : {X Y : Type 0} (f : X → Y) (xs : List X) (i : ℕ) (x : X) → i < length xs → x ≡ get_or xs i x → Contains (map f xs) (f x)
+contains-map f [] i x within is = absurd (omega (arith, within))
+contains-map f (y ∷ ys) zero x within is = (zero, omega arith, ap f (sym is))
+contains-map f (y ∷ ys) (suc i) x within is = let rest = contains-map f ys i x (omega (arith, within)) is in (suc rest.0, omega (arith, rest.1), rest.2)
+
+pub slice_get-map : {X Y : Type 0} (f : X → Y) (xs : List X) (i : ℕ) (x : X) → i < length xs → x ≡ get_or xs i x → slice_get (map f xs) i ≡ Some (f x)
+slice_get-map f [] i x within is = absurd (omega (arith, within))
+slice_get-map f (y ∷ ys) zero x within is = ap (λ z. Some (f z)) (sym is)
+slice_get-map f (y ∷ ys) (suc i) x within is = slice_get-map f ys i x (omega (arith, within)) is
+
+not-true : (b : Bool) → not b ≡ true → b ≡ false
+not-true true e = absurd (false≢true e)
+not-true false e = refl
+
+pub record IsTRule (r : Rules) (t : TRule) : Type 0 where
+  pub distinct : are_distinct (trule_descs t) ≡ true
+  pub typed : is_typed_trule r t ≡ true
+  pub arities : wrong_in_trule r t ≡ false
+  pub known : unknown_in_trule r t ≡ false
+  pub free : any_use_of (assigns_cost (cost_name r.properties)) t.body ≡ false
+
+pub trule_facts : (r : Rules) → refused_by r ≡ None → (t : TRule) → Contains r.trules t → IsTRule r t
+trule_facts r accepted t there = record {
+  distinct = passes-Contains (λ (u : TRule). are_distinct (trule_descs u)) r.trules t (accepted-descs r accepted).trules there;
+  typed = passes-Contains (is_typed_trule r) r.trules t (accepted-types r accepted).trules there;
+  arities = not-true _ (passes-Contains (λ (u : TRule). not (wrong_in_trule r u)) r.trules t (accepted-arities r accepted).trules there);
+  known = not-true _ (passes-Contains (λ (u : TRule). not (unknown_in_trule r u)) r.trules t (accepted-known r accepted).trules there);
+  free = not-true _ (passes-Contains (λ (u : TRule). not (any_use_of (assigns_cost (cost_name r.properties)) u.body)) r.trules t (accepted-assigned r accepted).trules there);
+}
+
+pub record IsIRule (r : Rules) (i : IRule) : Type 0 where
+  pub distinct : are_distinct (irule_descs i) ≡ true
+  pub typed : is_typed_irule r i ≡ true
+  pub ordered : same_numbers (map (λ s. s.number) i.right.inputs) (streams i.left) ≡ true
+  pub cost : holds_of (is_sound_cost r i) (cost_of (cost_name r.properties) i) ≡ true
+  pub number : holds_of (is_number r i) (cost_of (cost_name r.properties) i) ≡ true
+
+pub irule_facts : (r : Rules) → refused_by r ≡ None → (i : IRule) → Contains r.irules i → IsIRule r i
+irule_facts r accepted i there = record {
+  distinct = passes-Contains (λ (u : IRule). are_distinct (irule_descs u)) r.irules i (accepted-descs r accepted).irules there;
+  typed = passes-Contains (is_typed_irule r) r.irules i (accepted-types r accepted).irules there;
+  ordered = second_so _ _ (passes-Contains is_sound_irule r.irules i (accepted-sides r accepted).irules there);
+  cost = passes-Contains (λ (u : IRule). holds_of (is_sound_cost r u) (cost_of (cost_name r.properties) u)) r.irules i (accepted-costs r accepted).forms there;
+  number = passes-Contains (λ (u : IRule). holds_of (is_number r u) (cost_of (cost_name r.properties) u)) r.irules i (accepted-costs r accepted).numbers there;
+}

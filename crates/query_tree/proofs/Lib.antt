@@ -1,0 +1,14 @@
+pub mod AcceptedFacts
+pub mod AskedLaws
+pub mod BuildLaws
+pub mod CostLaws
+pub mod DescLaws
+pub mod FaultLaws
+pub mod FoundLaws
+pub mod MadeLaws
+pub mod MatchLaws
+pub mod PartLaws
+pub mod RunLaws
+pub mod ScopeLaws
+pub mod SoundLaws
+pub mod StepLaws

@@ -1,0 +1,10 @@
+use Rattle.std.proofs.Common.{◌≡◌, ◌+◌, drop, map}
+use Rattle.query_tree.specs.Steps.{operator_at}
+use Rattle.rule_syntax.specs.Seen.{seen_operator}
+use Rattle.query_tree.proofs.building.operator_at.Given as goal
+
+-- it stands among the rest
+abbrev pub invariant-loop-place : goal.invariant-loop-place
+invariant-loop-place l =
+    operator_at (map seen_operator l.operators) l.name
+    ≡ l.place + operator_at (map seen_operator (drop l.place l.operators)) l.name

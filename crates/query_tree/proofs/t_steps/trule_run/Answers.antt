@@ -1,0 +1,26 @@
+use Rattle.rule_syntax.specs.Descs.{trule_descs}
+use Rattle.rule_syntax.specs.Seen.{seen_stmt, seen_trule}
+use Rattle.rule_syntax.specs.SeenRules.{seen_rules}
+use Rattle.std.proofs.Common.{map, ap, ◌∙◌}
+use Rattle.action_eval.specs.Environments.{are_typed_here}
+use Rattle.action_eval.specs.SeenEnv.{seen_env}
+use Rattle.query_tree.proofs.AcceptedFacts.{trule_facts}
+use Rattle.query_tree.proofs.RunLaws.{body-typed, came-true, post-typed, ready-after, tested-rules}
+use Rattle.query_tree.proofs.t_steps.trule_run.Goals as goal
+
+pub passes-requires-clause-typed : goal.passes-requires-clause-typed
+passes-requires-clause-typed c =
+    let r = seen_rules c.args.under.now.rules.now in
+    let t = seen_trule c.args.rule.now in
+    body-typed r (trule_descs t) (seen_env c.in_ok-env.env) t.body c.in_ok-env.ensures.ready (trule_facts r c.args.under.now.accepted t c.requires.rule).typed
+
+pub run_statements-requires-clause-typed : goal.run_statements-requires-clause-typed
+run_statements-requires-clause-typed c =
+    let r = seen_rules c.args.under.now.rules.now in
+    let t = seen_trule c.args.rule.now in
+    let catalog = c.args.under.now.catalog.now in
+    let start = seen_env c.in_ok-env.env in
+    let mid = seen_env c.passes.new.env in
+    let tested = came-true catalog t.body c.in_ok-passes.field-0 start mid c.in_ok-passes.ensures.tested c.if-not-branch.false in
+    let ready = ready-after r (trule_descs t) start mid c.in_ok-env.ensures.ready c.in_ok-passes.ensures.sound c.in_ok-passes.ensures.context (tested-rules catalog t.body start mid tested) in
+    ap (λ ss. are_typed_here mid (map seen_stmt ss)) c.as_slice.ensures ∙ post-typed r (trule_descs t) mid t.body ready (trule_facts r c.args.under.now.accepted t c.requires.rule).typed

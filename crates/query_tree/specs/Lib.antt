@@ -1,0 +1,13 @@
+pub mod Applied
+pub mod Built
+pub mod Faultless
+pub mod Found
+pub mod Matches
+pub mod Query
+pub mod Refusals
+pub mod Scopes
+pub mod SeenFound
+pub mod SeenParts
+pub mod Steps
+pub mod Trees
+pub mod Views

@@ -1,0 +1,10 @@
+use Rattle.std.proofs.Common.{◌≡◌, map, take}
+use Rattle.pr_value.specs.SymbolSets.{contains}
+use Rattle.pr_value.specs.Symbols.{Symbol}
+use Rattle.rule_syntax.specs.Roles.{is_physical}
+use Rattle.rule_syntax.specs.Seen.{seen_irule}
+use Rattle.rule_types.proofs.roles.physical_names.Given as goal
+
+-- those of the rules so far
+abbrev pub invariant-loop-rule : goal.invariant-loop-rule
+invariant-loop-rule l = (p : Symbol) → contains l.names.items p ≡ is_physical (map seen_irule (take l.rule-index l.rules)) p
