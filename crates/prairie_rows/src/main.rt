@@ -8,8 +8,10 @@ mod reads;
 mod report;
 mod roles;
 mod runs;
+mod steps;
 mod texts;
 mod tokens;
+mod trees;
 mod trouble;
 mod values;
 
@@ -57,6 +59,9 @@ fn tables(alloc: Global, file: &Json, texts: &Texts, report: &mut Report) -> Res
     }
     for table in members::items(file, "roles") {
         roles::role_table(alloc, table, texts, report)?;
+    }
+    for table in members::items(file, "steps") {
+        steps::step_table(alloc, table, texts, report)?;
     }
     Ok(())
 }

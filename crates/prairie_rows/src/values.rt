@@ -46,7 +46,8 @@ fn value(
     Ok(came)
 }
 
-fn catalog_of(alloc: Global, text: &[u8]) -> Result<Catalog, Trouble> {
+/// The catalog that a text reads as.
+pub fn catalog_of(alloc: Global, text: &[u8]) -> Result<Catalog, Trouble> {
     match read_catalog(alloc, text) {
         Ok(catalog) => Ok(catalog),
         Err(CatalogError::Memory) => Err(Trouble::Memory),

@@ -1,0 +1,198 @@
+// Rows of the trees of queries, and of what rules make of them, ask of them and cost there.
+ghost use Rattle.std.specs.Prelude.{◌≡◌, ◌<◌, length};
+ghost use Rattle.descriptor_types.specs.Labels.{seen_tree};
+ghost use Rattle.property_classes.specs.Classes.{classes_of};
+ghost use Rattle.query_tree.specs.Trees.{IsTree};
+ghost use Rattle.rule_syntax.specs.SeenRules.{seen_rules};
+
+use crate::members::{items, said, said_string, string};
+use crate::prints::rules_of;
+use crate::report::Report;
+use crate::texts::{Texts, text_of};
+use crate::trees::{push_form, push_tree, push_values};
+use crate::trouble::Trouble;
+use crate::values::catalog_of;
+use action_eval::IStep;
+use catalog::Catalog;
+use descriptor_types::Tree;
+use pr_value::Text;
+use property_classes::Classes;
+use query_tree::{QueryRefusal, build, i_step, t_step};
+use rule_lex::{LexError, tokens};
+use rule_syntax::{QueryText, SyntaxError, read_query};
+use rule_types::{AcceptError, Accepted, accept};
+use serde_json::Value as Json;
+use std::alloc::Global;
+
+pub fn step_table(
+    alloc: Global,
+    table: &Json,
+    texts: &Texts,
+    report: &mut Report,
+) -> Result<(), Trouble> {
+    let name = said_string(table, table, "table")?;
+    let text = text_of(alloc, table, "rules", texts)?;
+    let accepted = accepted_of(alloc, text.as_bytes())?;
+    for row in items(table, "rows") {
+        let row_name = said_string(row, row, "row")?;
+        let wanted = text_of(alloc, row, "answer", texts)?;
+        let came = came_of(alloc, &accepted, row, table, texts)?;
+        report.row(name, row_name, wanted.as_bytes(), came.as_slice())?;
+    }
+    Ok(())
+}
+
+/// The accepted rule set that a text reads as.
+fn accepted_of(alloc: Global, text: &[u8]) -> Result<Accepted, Trouble> {
+    let rules = rules_of(alloc, text)?;
+    match accept(alloc, rules) {
+        Ok(accepted) => Ok(accepted),
+        Err((_rules, AcceptError::Memory)) => Err(Trouble::Memory),
+        Err(_refused) => Err(Trouble::Misshapen("accepted rules")),
+    }
+}
+
+fn query_of(alloc: Global, text: &[u8]) -> Result<QueryText, Trouble> {
+    let ts = match tokens(alloc, text) {
+        Ok(ts) => ts,
+        Err(LexError::Memory) => return Err(Trouble::Memory),
+        Err(_) => return Err(Trouble::Misshapen("the tokens of a query")),
+    };
+    match read_query(alloc, &ts) {
+        Ok(query) => Ok(query),
+        Err(SyntaxError::Memory) => Err(Trouble::Memory),
+        Err(_) => Err(Trouble::Misshapen("the syntax of a query")),
+    }
+}
+
+/// The text of the row's member, or else of the table's.
+fn said_text(
+    alloc: Global,
+    row: &Json,
+    table: &Json,
+    name: &'static str,
+    texts: &Texts,
+) -> Result<String, Trouble> {
+    match said(row, table, name) {
+        Some(json) => texts.text(alloc, json),
+        None => Err(Trouble::Misshapen(name)),
+    }
+}
+
+/// Under what a row builds its tree and takes its rule.
+#[derive(Drop)]
+struct Under<'a> {
+    accepted: &'a Accepted,
+    classes: &'a Classes,
+    catalog: &'a Catalog,
+}
+
+/// The tree of the row's query, or what the row's rule makes of it or asks and costs there.
+fn came_of(
+    alloc: Global,
+    accepted: &Accepted,
+    row: &Json,
+    table: &Json,
+    texts: &Texts,
+) -> Result<Text, Trouble> {
+    let classes = Classes::of(alloc, &accepted.rules)?;
+    let catalog = said_text(alloc, row, table, "catalog", texts)?;
+    let catalog = catalog_of(alloc, catalog.as_bytes())?;
+    let query = said_text(alloc, row, table, "query", texts)?;
+    let query = query_of(alloc, query.as_bytes())?;
+    let under = Under {
+        accepted,
+        classes: &classes,
+        catalog: &catalog,
+    };
+    match build(alloc, accepted, &classes, &catalog, &query) {
+        Ok(tree) => told(alloc, &under, row, &tree),
+        Err(QueryRefusal::Memory) => Err(Trouble::Memory),
+        Err(_refusal) => Err(Trouble::Misshapen("a query that builds a tree")),
+    }
+}
+
+/// The tree, or what the row's T-rule makes of it, or what its I-rule asks and costs there.
+fn told(alloc: Global, under: &Under<'_>, row: &Json, tree: &Tree) -> Result<Text, Trouble>
+    requires classes { under.now.classes.now ≡ classes_of (seen_rules under.now.accepted.now.rules) }
+    requires tree { IsTree (seen_rules under.now.accepted.now.rules) under.now.catalog.now
+        (seen_tree tree.now) }
+{
+    let mut out = Text::new(alloc);
+    if let Some(json) = row.get("trule") {
+        tell_rewritten(alloc, under, string(json, "trule")?, tree, &mut out)?;
+    } else if let Some(json) = row.get("irule") {
+        tell_implemented(alloc, under, string(json, "irule")?, tree, &mut out)?;
+    } else {
+        push_tree(alloc, &under.accepted.rules, tree, 0, &mut out)?;
+    }
+    Ok(out)
+}
+
+/// What the T-rule of that name makes of the tree.
+fn tell_rewritten(
+    alloc: Global,
+    under: &Under<'_>,
+    name: &str,
+    tree: &Tree,
+    out: &mut Text,
+) -> Result<(), Trouble>
+    requires classes { under.now.classes.now ≡ classes_of (seen_rules under.now.accepted.now.rules) }
+    requires tree { IsTree (seen_rules under.now.accepted.now.rules) under.now.catalog.now
+        (seen_tree tree.now) }
+{
+    let accepted = under.accepted;
+    for (number, rule) in accepted.rules.trules.as_slice().iter().enumerate() {
+        if rule.name.as_slice() == name.as_bytes() {
+            match t_step(alloc, accepted, under.classes, under.catalog, number, tree)? {
+                Some(made) => push_tree(alloc, &accepted.rules, &made, 0, out)?,
+                None => out.push_bytes(b"none\n")?,
+            }
+        }
+    }
+    Ok(())
+}
+
+/// What the I-rule of that name asks and costs at the tree.
+fn tell_implemented(
+    alloc: Global,
+    under: &Under<'_>,
+    name: &str,
+    tree: &Tree,
+    out: &mut Text,
+) -> Result<(), Trouble>
+    requires classes { under.now.classes.now ≡ classes_of (seen_rules under.now.accepted.now.rules) }
+    requires tree { IsTree (seen_rules under.now.accepted.now.rules) under.now.catalog.now
+        (seen_tree tree.now) }
+{
+    let accepted = under.accepted;
+    for (number, rule) in accepted.rules.irules.as_slice().iter().enumerate() {
+        if rule.name.as_slice() == name.as_bytes() {
+            match i_step(alloc, accepted, under.classes, under.catalog, number, tree)? {
+                Some(step) => push_step(alloc, accepted, &step, out)?,
+                None => out.push_bytes(b"none\n")?,
+            }
+        }
+    }
+    Ok(())
+}
+
+/// What is asked of each input, the algorithm's descriptor, and the cost over the inputs' costs.
+fn push_step(
+    alloc: Global,
+    accepted: &Accepted,
+    step: &IStep,
+    out: &mut Text,
+) -> Result<(), Trouble> {
+    for asked in step.asked.as_slice() {
+        out.push_bytes(b"asked")?;
+        push_values(alloc, &accepted.rules, asked, out)?;
+        out.push_bytes(b"\n")?;
+    }
+    out.push_bytes(b"before")?;
+    push_values(alloc, &accepted.rules, &step.before, out)?;
+    out.push_bytes(b"\ncost ")?;
+    push_form(alloc, &step.cost, out)?;
+    out.push_bytes(b"\n")?;
+    Ok(())
+}
