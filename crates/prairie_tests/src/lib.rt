@@ -9,13 +9,15 @@ mod ways;
 
 pub use listed::Listed;
 pub use search::Search;
-pub use toy::{Toy, toy_log};
+pub use toy::{Toy, term, toy_log};
 pub use ways::{Kind, Way};
 
 #[cfg(test)]
 mod base_tests;
 #[cfg(test)]
 mod derivation_tests;
+#[cfg(test)]
+mod memo_tests;
 #[cfg(test)]
 mod moves_tests;
 #[cfg(test)]
