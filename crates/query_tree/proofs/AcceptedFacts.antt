@@ -1,9 +1,9 @@
 -- What is known of the rules of an accepted rule set.
-use Rattle.std.proofs.Common.{◌≡◌, ℕ, zero, suc, ◌<◌, Bool, true, false, not, List, [], ◌∷◌, length, map, get_or, Some, None, refl, ap, sym, subst, arith}
+use Rattle.std.proofs.Common.{◌≡◌, ℕ, zero, suc, ◌<◌, Bool, true, false, not, List, [], ◌∷◌, length, map, get_or, Some, None, ap, sym, subst, arith}
 use Rattle.std.specs.Cmp.{first_so, second_so}
 use Rattle.std.specs.List.{Contains, list_all}
 use Rattle.std.specs.Prelude.{◌&&◌, slice_get}
-use Rattle.std.proofs.lemmas.Bool.{false≢true}
+use Rattle.std.proofs.lemmas.Bool.{not-true}
 use Rattle.pr_value.specs.Repeats.{are_distinct}
 use Rattle.pr_value.specs.Symbols.{Symbol}
 use Rattle.rule_syntax.specs.CostForms.{cost_name, is_cost_form, reads_cost_of}
@@ -58,10 +58,6 @@ pub slice_get-map : {X Y : Type 0} (f : X → Y) (xs : List X) (i : ℕ) (x : X)
 slice_get-map f [] i x within is = absurd (omega (arith, within))
 slice_get-map f (y ∷ ys) zero x within is = ap (λ z. Some (f z)) (sym is)
 slice_get-map f (y ∷ ys) (suc i) x within is = slice_get-map f ys i x (omega (arith, within)) is
-
-not-true : (b : Bool) → not b ≡ true → b ≡ false
-not-true true e = absurd (false≢true e)
-not-true false e = refl
 
 pub record IsTRule (r : Rules) (t : TRule) : Type 0 where
   pub distinct : are_distinct (trule_descs t) ≡ true

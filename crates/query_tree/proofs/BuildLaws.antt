@@ -7,7 +7,7 @@ use Rattle.std.specs.Cmp.Lexicographic.{bytes_decides}
 use Rattle.std.specs.List.{list_any, list_all, zip}
 use Rattle.std.specs.Str.{bytes_eq}
 use Rattle.std.proofs.lemmas.Bool.{false≢true, not-false, not-true}
-use Rattle.std.proofs.lemmas.List.{length-map, take_more}
+use Rattle.std.proofs.lemmas.List.{map-append, take_more}
 use Rattle.std.proofs.lemmas.List.Folds.{list_all-append, list_any-append}
 use Rattle.action_eval.proofs.KindLaws.{fits-desc_in}
 use Rattle.action_eval.proofs.PlainLaws.{or_first, or_second}
@@ -16,9 +16,8 @@ use Rattle.action_eval.specs.Environments.{Env, IsSound, after, are_typed_here, 
 use Rattle.action_eval.specs.Meaning.{desc_in}
 use Rattle.catalog.specs.Contents as contents
 use Rattle.catalog.specs.Contents.{Catalog, Entry, entry, listed, unknown}
-use Rattle.descriptor_types.proofs.FitLaws.{fits-only}
-use Rattle.descriptor_types.specs.Descriptors.{Desc, Mask, fits, only, plain, value_of}
-use Rattle.descriptor_types.specs.Labels.{Label, file, operator, desc_of, seen_tree, view}
+use Rattle.descriptor_types.specs.Descriptors.{Desc, Mask, fits, plain}
+use Rattle.descriptor_types.specs.Labels.{Label, file, operator, seen_tree, view}
 use Rattle.descriptor_types.specs.declared.tree.Tree as rust
 use Rattle.pr_value.proofs.TreeLaws.{list_of_trees_of}
 use Rattle.pr_value.proofs.ZipLaws.{zip-push, firsts}
@@ -26,15 +25,12 @@ use Rattle.pr_value.specs.Repeats.{are_distinct}
 use Rattle.pr_value.specs.Symbols.{Symbol}
 use Rattle.pr_value.specs.SymbolSets.{contains}
 use Rattle.pr_value.specs.Trees.{Tree, node, Trees, cons, list_of, trees_of, tree}
-use Rattle.pr_value.specs.Values.{default_of}
-use Rattle.pr_value.specs.declared.kind.Kind.TheVariants as kind
 use Rattle.pr_value.specs.declared.memory.Memory.{Memory}
 use Rattle.pr_value.specs.declared.property.Property.{Property}
-use Rattle.pr_value.specs.declared.value.Value.TheVariants as value
-use Rattle.property_classes.specs.Classes.{classes_of, is_seen}
 use Rattle.query_tree.proofs.CostLaws.{AreFree, free-desc_in, free-run}
 use Rattle.query_tree.specs.Built.{built_operator}
 use Rattle.query_tree.specs.Query.{initial_desc, operator_named, query_tree, query_trees, with_settings}
+use Rattle.query_tree.proofs.FoundLaws.{view-IsDesc}
 use Rattle.query_tree.proofs.PartLaws.{inputs_of-list}
 use Rattle.query_tree.specs.Faultless.{IsFaultless, IsRight}
 use Rattle.query_tree.specs.Refusals.{IsTold, is_unknown, named_if, unknown_file, wrong_arity}
@@ -44,18 +40,17 @@ use Rattle.query_tree.specs.Trees.{IsDesc, IsFree, IsTree, AreTrees}
 use Rattle.query_tree.specs.Views.{seen, view_in}
 use Rattle.rule_syntax.specs.CostForms.{cost_name}
 use Rattle.rule_syntax.specs.Descs.{operator_descs}
-use Rattle.rule_syntax.specs.Roles.{class_of}
 use Rattle.query_tree.specs.declared.refusal.QueryRefusal.{QueryRefusal}
 use Rattle.query_tree.specs.declared.refusal.QueryRefusal.TheVariants as refusal
 use Rattle.rule_syntax.proofs.SeenLaws.{seen_node}
 use Rattle.rule_syntax.specs.Seen.{seen_operator, seen_query}
 use Rattle.rule_syntax.specs.declared.parts.Operator as code
 use Rattle.rule_syntax.specs.Syntax.{QueryLabel, Operator, Query, Rules}
-use Rattle.rule_syntax.specs.Typing.{Context, is_typed_stmt, property_kind, signatures_of}
+use Rattle.rule_syntax.specs.Typing.{Context, is_typed_stmt, signatures_of}
 use Rattle.rule_syntax.specs.declared.query.QueryText as query
 use Rattle.rule_syntax.specs.declared.query.QueryText.TheVariants as queries
 use Rattle.rule_syntax.specs.declared.query.Setting.{Setting}
-use Rattle.rule_types.proofs.AcceptedCosts.{accepted-one_cost, accepted-assigned}
+use Rattle.rule_types.proofs.AcceptedCosts.{accepted-assigned}
 use Rattle.rule_types.proofs.AcceptedNames.{accepted-descs, accepted-names}
 use Rattle.rule_types.proofs.AcceptedTypes.{accepted-types}
 use Rattle.rule_types.specs.AcceptedLaws.{has_typed_init, no_use_in}
@@ -113,48 +108,23 @@ stands-takes (p ∷ os) o n distinct known =
           }
     ] refl known
 
--- ---- views
-
-free-only : (ps : List Property) (m : Mask) (d : Desc) (name : Symbol) → property_kind ps name ≡ Some kind.Cost → value_of ps name d ≡ value.Num 0 → value_of ps name (only ps m d) ≡ value.Num 0
-free-only [] m d name is free = refl
-free-only (p ∷ ps) [] d name is free = refl
-free-only (p ∷ ps) (b ∷ bs) [] name is free = refl
-free-only (p ∷ ps) (b ∷ bs) (v ∷ d) name is free =
-    elim (bytes_eq p.name name) as (λ h. cond h (Some p.kind) (property_kind ps name) ≡ Some kind.Cost → cond h v (value_of ps name d) ≡ value.Num 0
-    → cond h (cond b v (default_of p.kind)) (value_of ps name (only ps bs d)) ≡ value.Num 0) [
-      | true ↦ λ e f. either b f (ap default_of (some-same e))
-      | false ↦ λ e f. free-only ps bs d name e f
-    ] is free where
-      either : (b : Bool) → v ≡ value.Num 0 → default_of p.kind ≡ value.Num 0 → cond b v (default_of p.kind) ≡ value.Num 0
-      either true f g = f
-      either false f g = g
-
-length-seen : (r : Rules) → length (seen r) ≡ length r.properties
-length-seen r = length-map (classes_of r) is_seen ∙ length-map r.properties (class_of r)
-
-view-sound : (r : Rules) (c : Catalog) (t : Tree Label) → refused_by r ≡ None → IsTree r c t → IsDesc r (view_in r t)
-view-sound r c (node l ts) accepted sound = (
-  fits-only r.properties (seen r) (desc_of (node l ts)) (length-seen r) sound.0.0,
-  free-only r.properties (seen r) (desc_of (node l ts)) (cost_name r.properties) (accepted-one_cost r accepted).declared sound.0.1,
-)
-
 -- ---- the scope of an initializer
 
-fits-views : (r : Rules) (c : Catalog) (ts : List (Tree Label)) → refused_by r ≡ None → AreTrees r c (trees_of ts) → list_all (fits r.properties) (map (view_in r) ts) ≡ true
-fits-views r c [] accepted sound = refl
-fits-views r c (t ∷ ts) accepted sound = both_true (view-sound r c t accepted sound.0).0 (fits-views r c ts accepted sound.1)
+fits-views : (r : Rules) (c : Catalog) (ts : List (Tree Label)) → AreTrees r c (trees_of ts) → list_all (fits r.properties) (map (view_in r) ts) ≡ true
+fits-views r c [] sound = refl
+fits-views r c (t ∷ ts) sound = both_true (view-IsDesc r c t sound.0).0 (fits-views r c ts sound.1)
 
 pub fits-scope : (r : Rules) (c : Catalog) (ts : List (Tree Label)) (d : Desc) (ds : List Desc) → refused_by r ≡ None → AreTrees r c (trees_of ts) → IsDesc r d → ds ≡ map (view_in r) ts ++ d ∷ []
     → list_all (fits r.properties) ds ≡ true
 fits-scope r c ts d ds accepted sound own is =
     ap (list_all (fits r.properties)) is
-    ∙ (list_all-append (fits r.properties) (map (view_in r) ts) (d ∷ []) ∙ both_true (fits-views r c ts accepted sound) (both_true own.0 refl))
+    ∙ (list_all-append (fits r.properties) (map (view_in r) ts) (d ∷ []) ∙ both_true (fits-views r c ts sound) (both_true own.0 refl))
 
-free-zip : (r : Rules) (c : Catalog) (names : List Symbol) (ts : List (Tree Label)) (name : Symbol) (d : Desc) → refused_by r ≡ None → AreTrees r c (trees_of ts) → IsFree r d
+free-zip : (r : Rules) (c : Catalog) (names : List Symbol) (ts : List (Tree Label)) (name : Symbol) (d : Desc) → AreTrees r c (trees_of ts) → IsFree r d
     → AreFree r (zip names (map (view_in r) ts) ++ (name, d) ∷ [])
-free-zip r c [] ts name d accepted sound free = (free, tt)
-free-zip r c (n ∷ names) [] name d accepted sound free = (free, tt)
-free-zip r c (n ∷ names) (t ∷ ts) name d accepted sound free = ((view-sound r c t accepted sound.0).1, free-zip r c names ts name d accepted sound.1 free)
+free-zip r c [] ts name d sound free = (free, tt)
+free-zip r c (n ∷ names) [] name d sound free = (free, tt)
+free-zip r c (n ∷ names) (t ∷ ts) name d sound free = ((view-IsDesc r c t sound.0).1, free-zip r c names ts name d sound.1 free)
 
 pub names-scope : (o : Operator) (views : List Desc) (d : Desc) → length o.views ≡ length views → map (λ (p : Symbol × Desc). p.0) (operator_scope o views d) ≡ operator_descs o
 names-scope o views d as_many =
@@ -192,7 +162,7 @@ initial-free r c i o ss ts accepted at sound own =
     let cost = cost_name r.properties in
     let none = not-true (list_any (any_use_in (assigns_cost cost)) o.init) (passes-at (λ (p : Operator). no_use_in (assigns_cost cost) p.init) r.operators i o (accepted-assigned r accepted).inits at) in
     free-desc_in r (after (env_over r scope) c o.init).descs o.own
-    (free-run r c o.init (scope_of (env_over r scope)) none (free-zip r c o.views ts o.own d accepted sound own.1))
+    (free-run r c o.init (scope_of (env_over r scope)) none (free-zip r c o.views ts o.own d sound own.1))
 
 -- ---- trees
 
@@ -275,19 +245,10 @@ initial-fits r o views d old new as_many is laid sound context =
     ∙ (ap (λ (ss : List Symbol). contains ss o.own) (names-scope o views d as_many) ∙ contains-own o)) in
     ap (λ (l : List Property). fits l (desc_in new.descs o.own)) (sym layout) ∙ fits-desc_in new.layout new.descs o.own sound.descs there
 
-pub slice_get-map : {X Y : Type 0} (f : X → Y) (xs : List X) (i : ℕ) (x : X) → i < length xs → x ≡ get_or xs i x → slice_get (map f xs) i ≡ Some (f x)
-slice_get-map f [] i x within is = absurd (omega (arith, within))
-slice_get-map f (y ∷ ys) zero x within is = ap (λ z. Some (f z)) (sym is)
-slice_get-map f (y ∷ ys) (suc i) x within is = slice_get-map f ys i x (omega (arith, within)) is
-
 pub within-map : {X Y : Type 0} (f : X → Y) (xs : List X) (i : ℕ) (y : Y) → slice_get (map f xs) i ≡ Some y → i < length xs
 within-map f [] i y at = cc
 within-map f (x ∷ xs) zero y at = omega arith
 within-map f (x ∷ xs) (suc i) y at = let rest = within-map f xs i y at in omega (arith, rest)
-
-pub map-push : {A B : Type 0} (f : A → B) (xs : List A) (x : A) → map f (xs ++ x ∷ []) ≡ map f xs ++ f x ∷ []
-map-push f [] x = refl
-map-push f (y ∷ xs) x = ap (λ ys. f y ∷ ys) (map-push f xs x)
 
 -- the operator that is found by its name
 pub found : (os all : List code.Operator) (o : Symbol) (n place : ℕ) → all ≡ os → place ≡ operator_at (map seen_operator all) o → Stands (map seen_operator os) o n
@@ -312,10 +273,10 @@ pub built-more : (r : Rules) (c : Catalog) (qs : List query.QueryText) (i : ℕ)
 built-more r c qs i q ts new t within at so_far made sound pushed =
     let more : take (i + 1) qs ≡ take i qs ++ q ∷ [] = take_more qs i q within ∙ ap (λ (x : query.QueryText). take i qs ++ x ∷ []) (sym at) in (
       ap (map seen_tree) pushed
-          ∙ (map-push seen_tree ts t
+          ∙ (map-append seen_tree ts (t ∷ [])
           ∙ (ap (λ (us : List (Tree Label)). us ++ seen_tree t ∷ []) so_far.0
           ∙ (ap (λ (u : Tree Label). map (built r c) (take i qs) ++ u ∷ []) made
-          ∙ sym (ap (map (built r c)) more ∙ map-push (built r c) (take i qs) q)))),
+          ∙ sym (ap (map (built r c)) more ∙ map-append (built r c) (take i qs) (q ∷ []))))),
       subst (λ (us : List rust.Tree). AreTrees r c (trees_of (map seen_tree us))) (sym pushed) (trees-push r c ts t so_far.1 sound),
     )
 

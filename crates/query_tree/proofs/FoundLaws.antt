@@ -19,8 +19,8 @@ use Rattle.pr_value.specs.declared.value.Value.{Value}
 use Rattle.pr_value.specs.declared.value.Value.TheVariants as value
 use Rattle.action_eval.proofs.TypeLaws.{some-same}
 use Rattle.catalog.specs.Contents.{Catalog}
-use Rattle.descriptor_types.proofs.FitLaws.{fits-only, fits-plain}
-use Rattle.descriptor_types.specs.Descriptors.{Desc, Mask, fits, only, plain, value_of}
+use Rattle.descriptor_types.proofs.FitLaws.{fits-only}
+use Rattle.descriptor_types.specs.Descriptors.{Desc, Mask, fits, only, value_of}
 use Rattle.descriptor_types.specs.Labels.{Label, file, operator, desc_of}
 use Rattle.property_classes.specs.Classes.{classes_of, is_seen}
 use Rattle.rule_syntax.specs.CostForms.{cost_name}
@@ -60,19 +60,6 @@ only-zero (p ∷ ps) (b ∷ bs) (v ∷ d) name fit zero =
       | true ↦ λ is. zero_either b p.kind v is (first_so _ _ fit)
       | false ↦ λ is. only-zero ps bs d name (second_so _ _ fit) is
     ] zero
-
-plain-zero : (ps : List Property) (d : Desc) (name : Symbol) → fits ps d ≡ true → value_of ps name d ≡ value.Num 0 → value_of ps name (plain ps) ≡ value.Num 0
-plain-zero [] d name fit zero = refl
-plain-zero (p ∷ ps) [] name fit zero = absurd (false≢true fit)
-plain-zero (p ∷ ps) (v ∷ d) name fit zero =
-    elim (bytes_eq p.name name) as (λ c. cond c v (value_of ps name d) ≡ value.Num 0 → cond c (default_of p.kind) (value_of ps name (plain ps)) ≡ value.Num 0) [
-      | true ↦ λ is. zero_here p.kind v is (first_so _ _ fit)
-      | false ↦ λ is. plain-zero ps d name (second_so _ _ fit) is
-    ] zero
-
--- the defaults cost nothing, where some descriptor does
-pub plain-IsDesc : (r : Rules) (d : Desc) → IsDesc r d → IsDesc r (plain r.properties)
-plain-IsDesc r d is = (fits-plain r.properties, plain-zero r.properties d (cost_name r.properties) is.0 is.1)
 
 pub length-seen : (r : Rules) → length (seen r) ≡ length r.properties
 length-seen r = length-map (classes_of r) is_seen ∙ length-map r.properties (class_of r)

@@ -1,12 +1,11 @@
 -- What a right side makes is a tree of the rules.
-use Rattle.std.proofs.Common.{◌≡◌, ℕ, suc, ◌+◌, ◌<◌, drop, take, get_or, Bool, true, false, cond, not, ◌||◌, ◌&&◌, List, [], ◌∷◌, ◌++◌, length, map, Some, refl, ap, sym, ◌∙◌, subst}
-use Rattle.std.specs.Prelude.{slice_get, ◌==◌}
-use Rattle.std.specs.Cmp.{first_so, second_so}
+use Rattle.std.proofs.Common.{◌≡◌, ℕ, suc, ◌+◌, ◌<◌, drop, take, get_or, Bool, true, false, cond, ◌||◌, List, [], ◌∷◌, ◌++◌, length, map, refl, ap, sym, ◌∙◌}
+use Rattle.std.specs.Prelude.{◌==◌}
 use Rattle.std.specs.List.{list_all, AllByRecursion as Every}
 use Rattle.std.specs.Str.{bytes_eq}
-use Rattle.std.proofs.lemmas.Bool.{false≢true}
+use Rattle.std.proofs.lemmas.Bool.{false≢true, not-false}
 use Rattle.std.proofs.lemmas.Bool.Decides.{Decides-eqb}
-use Rattle.std.proofs.lemmas.List.{take_more}
+use Rattle.std.proofs.lemmas.List.{map-append, take_more}
 use Rattle.std.proofs.lemmas.List.Folds.{list_any-append}
 use Rattle.action_eval.proofs.KindLaws.{fits-desc_in}
 use Rattle.action_eval.proofs.PlainLaws.{or_first, or_second}
@@ -15,7 +14,7 @@ use Rattle.action_eval.specs.Meaning.{desc_in}
 use Rattle.catalog.specs.Contents.{Catalog}
 use Rattle.descriptor_types.specs.Descriptors.{fits}
 use Rattle.descriptor_types.specs.Labels.{Label}
-use Rattle.pr_value.proofs.Shelf.{bytes_eq-same, bytes_eq-itself}
+use Rattle.pr_value.proofs.Shelf.{bytes_eq-itself}
 use Rattle.pr_value.specs.Repeats.{are_distinct}
 use Rattle.pr_value.specs.Symbols.{Symbol}
 use Rattle.pr_value.specs.SymbolSets.{contains}
@@ -24,19 +23,17 @@ use Rattle.rule_syntax.specs.Descs.{right_descs, rights_descs}
 use Rattle.rule_syntax.specs.Seen.{seen_right_in}
 use Rattle.rule_syntax.specs.declared.sides.RightIn as right_in
 use Rattle.rule_syntax.specs.Syntax.{RightLabel, Operator, Rules}
-use Rattle.rule_types.specs.Conditions.{has_number, is_unknown_right, operator_names, takes, wrong_right}
+use Rattle.rule_types.specs.Conditions.{has_number, is_unknown_right, operator_names, wrong_right}
 use Rattle.rule_types.specs.Uses.{any_node, any_nodes}
+use Rattle.query_tree.proofs.BuildLaws.{stands-takes}
 use Rattle.query_tree.proofs.CostLaws.{AreFree, free-desc_in}
 use Rattle.query_tree.proofs.MatchLaws.{at_place}
+use Rattle.query_tree.specs.Query.{operator_named}
 use Rattle.query_tree.specs.Scopes.{Scope}
-use Rattle.query_tree.specs.Steps.{made, all_made, operator_at, stream_at}
+use Rattle.query_tree.specs.Steps.{made, all_made, stream_at}
 use Rattle.query_tree.specs.Trees.{IsDesc, IsTree, AreTrees}
 
 -- ---- small laws
-
-pub not-false : (b : Bool) → not b ≡ false → b ≡ true
-not-false true e = refl
-not-false false e = absurd (false≢true (sym e))
 
 either_true : (a b : Bool) → (P : Type 0) → (a ≡ true → P) → (a ≡ false → b ≡ true → P) → (a || b) ≡ true → P
 either_true true b P one other e = one refl
@@ -54,35 +51,6 @@ contains-right ss ts d e = list_any-append (bytes_eq d) ss ts ∙ (ap (λ b. con
 
 pub contains-this : (d : Symbol) (ts : List Symbol) → contains (d ∷ ts) d ≡ true
 contains-this d ts = ap (λ b. b || contains ts d) (bytes_eq-itself d)
-
--- ---- operators
-
-takes-known : (os : List Operator) (o : Symbol) (n : ℕ) → takes os o n ≡ true → contains (operator_names os) o ≡ true
-takes-known [] o n e = absurd (false≢true e)
-takes-known (p ∷ ps) o n e =
-    either_true (bytes_eq p.name o && (length p.views == n)) (takes ps o n) (contains (operator_names (p ∷ ps)) o ≡ true)
-    (λ here. subst (λ (s : Symbol). contains (operator_names (p ∷ ps)) s ≡ true) (bytes_eq-same p.name o (first_so _ _ here)) (contains-this p.name (operator_names ps)))
-    (λ there later. ap (λ b. bytes_eq o p.name || b) (takes-known ps o n later) ∙ or-true (bytes_eq o p.name))
-    e
-
--- the operator of that name takes so many inputs
-pub operator_at-takes : (os : List Operator) (o : Symbol) (n : ℕ) → are_distinct (operator_names os) ≡ true → takes os o n ≡ true → (p : Operator) × (slice_get os (operator_at os o) ≡ Some p) × (length p.views ≡ n)
-operator_at-takes [] o n distinct e = absurd (false≢true e)
-operator_at-takes (p ∷ ps) o n distinct e = by (bytes_eq p.name o) refl e (λ later. operator_at-takes ps o n (second_so _ _ distinct) later) where
-  Goal : Type 0
-  Goal = (q : Operator) × (slice_get (p ∷ ps) (operator_at (p ∷ ps) o) ≡ Some q) × (length q.views ≡ n)
-
-  by : (b : Bool) → bytes_eq p.name o ≡ b → ((b && (length p.views == n)) || takes ps o n) ≡ true → (takes ps o n ≡ true → (q : Operator) × (slice_get ps (operator_at ps o) ≡ Some q) × (length q.views ≡ n)) → Goal
-  by true named e rest =
-      either_true (length p.views == n) (takes ps o n) Goal
-      (λ long. (p, ap (λ (b : Bool). slice_get (p ∷ ps) (cond b 0 (suc (operator_at ps o)))) named, (Decides-eqb (length p.views) n).0 long))
-      (λ no later.
-      let again : contains (operator_names ps) p.name ≡ true = subst (λ (s : Symbol). contains (operator_names ps) s ≡ true) (sym (bytes_eq-same p.name o named)) (takes-known ps o n later) in
-      absurd (false≢true (ap not (sym again) ∙ first_so _ _ distinct)))
-      e
-  by false named e rest =
-      let found = rest e in
-      (found.0, ap (λ (b : Bool). slice_get (p ∷ ps) (cond b 0 (suc (operator_at ps o)))) named ∙ found.1, found.2)
 
 -- ---- streams
 
@@ -115,9 +83,9 @@ module _ (r : Rules) (c : Catalog) (scope : Scope) (trees : List (ℕ × Tree La
     mutual
       pub made-IsTree : (x : Tree RightLabel) → Describes (right_descs x) → any_node (wrong_right r) x ≡ false → any_node (is_unknown_right r (map (λ s. s.0) trees)) x ≡ false → IsTree r c (made r.operators scope trees x)
       made-IsTree (node (RightLabel.operator o d) rs) good right known =
-          let takes_them = operator_at-takes r.operators o (length (list_of rs)) distinct (not-false _ (or_first _ _ right)) in (
+          let stands = stands-takes r.operators o (length (list_of rs)) distinct (not-false _ (or_first _ _ right)) in (
             good d (contains-right (rights_descs rs) (d ∷ []) d (contains-this d [])),
-            (takes_them.0, takes_them.1, takes_them.2 ∙ sym (all_made-long rs)),
+            (operator_named r.operators o, stands.at, stands.views ∙ sym (all_made-long rs)),
             all_made-AreTrees rs (λ e there. good e (contains-left (rights_descs rs) (d ∷ []) e there)) (or_second _ _ right) (or_second _ _ known),
           )
       made-IsTree (node (RightLabel.stream n) rs) good right known = stream_at-IsTree r c trees n all (not-false _ (or_first _ _ known))
@@ -146,12 +114,8 @@ none-at asked rs i x within is none =
     let both = ap (λ ys. any_nodes asked (trees_of ys)) (sym (at_place seen_right_in rs i x within is)) ∙ none in
     (or_first _ _ both, or_second _ _ both)
 
-map-push : {X Y : Type 0} (f : X → Y) (xs : List X) (x : X) → map f (xs ++ x ∷ []) ≡ map f xs ++ f x ∷ []
-map-push f [] x = refl
-map-push f (y ∷ xs) x = ap (λ ys. f y ∷ ys) (map-push f xs x)
-
 -- one more that is made
 pub made-more : {X Y Z : Type 0} (seen : X → Z) (f : Y → Z) (old new : List X) (one : X) (ys : List Y) (i : ℕ) (y : Y) → i < length ys → y ≡ get_or ys i y → map seen old ≡ map f (take i ys) → new ≡ old ++ one ∷ [] → seen one ≡ f y → map seen new ≡ map f (take (i + 1) ys)
 made-more {X} {Y} {Z} seen f old new one ys i y within is so_far pushed this =
-    ap (map seen) pushed ∙ (map-push seen old one ∙ (ap (λ (zs : List Z). zs ++ seen one ∷ []) so_far ∙ (ap (λ z. map f (take i ys) ++ z ∷ []) this
-    ∙ (sym (map-push f (take i ys) y) ∙ (ap (λ x. map f (take i ys ++ x ∷ [])) is ∙ ap (map f) (sym (take_more ys i y within)))))))
+    ap (map seen) pushed ∙ (map-append seen old (one ∷ []) ∙ (ap (λ (zs : List Z). zs ++ seen one ∷ []) so_far ∙ (ap (λ z. map f (take i ys) ++ z ∷ []) this
+    ∙ (sym (map-append f (take i ys) (y ∷ [])) ∙ (ap (λ x. map f (take i ys ++ x ∷ [])) is ∙ ap (map f) (sym (take_more ys i y within)))))))

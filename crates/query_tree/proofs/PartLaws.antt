@@ -1,7 +1,7 @@
 -- The nodes of a query, and what is at fault at them.
 use Rattle.std.proofs.Common.{◌≡◌, ℕ, false, List, [], ◌∷◌, ◌++◌, flat_map, length, map, refl, ap, sym, ◌∙◌, append_assoc}
 use Rattle.std.specs.List.{list_any}
-use Rattle.std.proofs.lemmas.List.{length-map}
+use Rattle.std.proofs.lemmas.List.{length-map, map-append}
 use Rattle.pr_value.specs.Symbols.{Symbol}
 use Rattle.pr_value.specs.Trees.{trees_of, list_of}
 use Rattle.pr_value.specs.declared.property.Property.{Property}
@@ -33,17 +33,13 @@ parts_node o ss qs =
     ∙ (ap (λ n. operator_part o ss n ∷ parts_of (trees_of (map seen_query qs))) (inputs_of-list qs)
     ∙ ap (λ ps. operator_part o ss (length qs) ∷ ps) (parts-list qs))
 
-map-push : {A B : Type 0} (f : A → B) (xs : List A) (x : A) → map f (xs ++ x ∷ []) ≡ map f xs ++ f x ∷ []
-map-push f [] x = refl
-map-push f (y ∷ xs) x = ap (λ ys. f y ∷ ys) (map-push f xs x)
-
 -- an operator, and then what stands below it
 pub node_pushed : (q : query.QueryText) (o : Symbol) (ss : List Setting) (qs below : List query.QueryText) (old mid new : List rust.Part) (p : rust.Part)
     → q ≡ queries.Node o ss qs → mid ≡ old ++ p ∷ [] → seen_part p ≡ operator_part o ss (length qs) → below ≡ qs
     → map seen_part new ≡ map seen_part mid ++ flat_map (λ x. parts (seen_query x)) below → map seen_part new ≡ map seen_part old ++ parts (seen_query q)
 node_pushed q o ss qs below old mid new p is pushed seen same rest =
     let here : map seen_part mid ≡ map seen_part old ++ operator_part o ss (length qs) ∷ [] =
-    ap (map seen_part) pushed ∙ (map-push seen_part old p ∙ ap (λ x. map seen_part old ++ x ∷ []) seen) in
+    ap (map seen_part) pushed ∙ (map-append seen_part old (p ∷ []) ∙ ap (λ x. map seen_part old ++ x ∷ []) seen) in
     rest
     ∙ (ap (λ xs. map seen_part mid ++ flat_map (λ x. parts (seen_query x)) xs) same
     ∙ (ap (λ ps. ps ++ flat_map (λ x. parts (seen_query x)) qs) here

@@ -28,7 +28,6 @@ use Rattle.rule_types.specs.Conditions.{is_typed_body}
 use Rattle.rule_types.specs.LaterConditions.{assigns_cost}
 use Rattle.rule_types.specs.Uses.{any_use_of}
 use Rattle.query_tree.proofs.CostLaws.{AreFree, free-run}
-use Rattle.query_tree.proofs.FoundLaws.{plain-IsDesc}
 use Rattle.query_tree.proofs.MatchLaws.{zip-append}
 use Rattle.query_tree.specs.Applied.{IsReady}
 use Rattle.query_tree.specs.Scopes.{Scope, env_over, tested, trule_scope}
@@ -136,15 +135,15 @@ free-defaults r d [] is = tt
 free-defaults r d (n ∷ names) is = (is.1, free-defaults r d names is)
 
 -- after a run each descriptor costs nothing
-pub trule_run-free : (r : Rules) (c : Catalog) (t : TRule) (slots : List Desc) (d : Desc) (env : Env) → Every (IsDesc r) slots → IsDesc r d → any_use_of (assigns_cost (cost_name r.properties)) t.body ≡ false → trule_run r c t slots ≡ Some env
+pub trule_run-free : (r : Rules) (c : Catalog) (t : TRule) (slots : List Desc) (env : Env) → Every (IsDesc r) slots → IsDesc r (plain r.properties) → any_use_of (assigns_cost (cost_name r.properties)) t.body ≡ false → trule_run r c t slots ≡ Some env
     → AreFree r env.descs
-trule_run-free r c t slots d env all is none ran =
+trule_run-free r c t slots env all is none ran =
     let start : Env = env_over r (trule_scope r t slots) in
     let mid = option_map-some (λ (e : Env). after e c t.body.post) (tested c t.body start) env ran in
     let before : mid.0 ≡ after start c t.body.pre = tested-after c t.body start mid.0 mid.1 in
     let scope : AreFree r (trule_scope r t slots) =
     free-append r (zip (left_descs t.left) slots) (map (λ n. (n, plain r.properties)) (right_descs t.right)) (free-zip r (left_descs t.left) slots all)
-    (free-defaults r (plain r.properties) (right_descs t.right) (plain-IsDesc r d is)) in
+    (free-defaults r (plain r.properties) (right_descs t.right) is) in
     let first : AreFree r (after start c t.body.pre).descs = free-run r c t.body.pre (scope_of start) (or_first _ _ (or_first _ _ none)) scope in
     let last : AreFree r (after (after start c t.body.pre) c t.body.post).descs = free-run r c t.body.post (scope_of (after start c t.body.pre)) (or_second _ _ none) first in
     subst (λ (e : Env). AreFree r e.descs) mid.2 (subst (λ (e : Env). AreFree r (after e c t.body.post).descs) (sym before) last)

@@ -6,7 +6,7 @@ use Rattle.action_eval.proofs.PlainLaws.{or_second}
 use Rattle.action_eval.specs.Cost.{IStep}
 use Rattle.action_eval.specs.Environments.{Env}
 use Rattle.catalog.specs.Contents.{Catalog}
-use Rattle.descriptor_types.specs.Descriptors.{Desc, fits}
+use Rattle.descriptor_types.specs.Descriptors.{Desc, fits, plain}
 use Rattle.descriptor_types.specs.Labels.{Label, seen_tree}
 use Rattle.descriptor_types.specs.declared.tree.Tree as code
 use Rattle.pr_value.specs.declared.memory.Memory.{Memory}
@@ -64,10 +64,10 @@ pub known-right : (r : Rules) (t : TRule) (ss : List rust.Stream) → IsTRule r 
 known-right r t ss rule numbers = ap (λ (ns : List ℕ). any_node (is_unknown_right r ns) t.right) (numbers-seen ss ∙ numbers) ∙ or_second _ _ rule.known
 
 -- what is made of what is found is a tree of the rules
-pub rewritten-IsTree : (r : Rules) (c : Catalog) (t : TRule) (f : Found) (d : Desc) (env : Env) → are_distinct (operator_names r.operators) ≡ true → IsTRule r t → IsFound r c t.left f → IsDesc r d → IsReady r (trule_descs t) env → Some env ≡ trule_run r c t f.slots
+pub rewritten-IsTree : (r : Rules) (c : Catalog) (t : TRule) (f : Found) (env : Env) → are_distinct (operator_names r.operators) ≡ true → IsTRule r t → IsFound r c t.left f → IsDesc r (plain r.properties) → IsReady r (trule_descs t) env → Some env ≡ trule_run r c t f.slots
     → IsTree r c (made r.operators env.descs f.streams t.right)
-rewritten-IsTree r c t f d env distinct rule seen is ready ran =
-    let free = trule_run-free r c t f.slots d env seen.slots is rule.free (sym ran) in
+rewritten-IsTree r c t f env distinct rule seen is ready ran =
+    let free = trule_run-free r c t f.slots env seen.slots is rule.free (sym ran) in
     let layout = ready.sound.layout ∙ ap (λ (s : Rules). s.properties) ready.rules in
     let fit = subst (λ l. list_all (λ x. fits l x.1) env.descs ≡ true) layout ready.sound.descs in
     made-IsTree r c env.descs f.streams distinct seen.trees t.right

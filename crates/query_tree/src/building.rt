@@ -1,8 +1,7 @@
 // The tree of a query, bottom-up.
-ghost use Rattle.std.specs.Prelude.{◌≡◌, ◌<◌, ◌++◌, ◌∷◌, [], length, map, None, Some, slice_get, slice_set, IfErr, IfNone, IfOk, IfSome, OnOk};
+ghost use Rattle.std.specs.Prelude.{◌≡◌, ◌++◌, ◌∷◌, [], length, map, None, IfErr, IfOk, OnOk};
 ghost use Rattle.action_eval.specs.Environments.{IsSound};
 ghost use Rattle.action_eval.specs.SeenEnv.{seen_env};
-ghost use Rattle.catalog.specs.Contents.{entry, field};
 ghost use Rattle.descriptor_types.specs.Descriptors.{plain, with_value};
 ghost use Rattle.descriptor_types.specs.Labels.{seen_tree};
 ghost use Rattle.pr_value.specs.Trees.{tree, trees_of};
@@ -10,10 +9,9 @@ ghost use Rattle.property_classes.specs.Classes.{classes_of};
 ghost use Rattle.query_tree.specs.Built.{built_operator};
 ghost use Rattle.query_tree.specs.Faultless.{IsDeclared, IsRight, IsFaultless, AreFaultless};
 ghost use Rattle.query_tree.specs.Query as spec;
-ghost use Rattle.query_tree.specs.Query.{fields_in, query_tree};
+ghost use Rattle.query_tree.specs.Query.{query_tree};
 ghost use Rattle.query_tree.specs.Refusals.{IsTold, first_setting, is_wrong_setting, refusal_of};
 ghost use Rattle.query_tree.specs.Scopes.{env_over, operator_scope};
-ghost use Rattle.query_tree.specs.Steps as steps;
 ghost use Rattle.query_tree.specs.Trees.{IsDesc, IsTree, AreTrees};
 ghost use Rattle.query_tree.specs.Views.{view_in};
 ghost use Rattle.rule_syntax.specs.Seen.{seen_operator, seen_query};
@@ -21,69 +19,23 @@ ghost use Rattle.rule_syntax.specs.SeenRules.{seen_rules};
 ghost use Rattle.rule_syntax.specs.Syntax.{QueryLabel};
 
 use crate::descs::desc_of;
+use crate::files::listed_desc;
 use crate::literals::literal_value;
+use crate::operators::{declared_at, operator_at};
 use crate::refusal::QueryRefusal;
 use crate::refusing::refused;
 use crate::scopes::env_over;
 use crate::under::Under;
 use action_eval::{Env, run_statements};
-use catalog::{Catalog, Fields, FileEntry};
+use catalog::Catalog;
 use descriptor_types::{Desc, Layout, Tree, push_views};
-use pr_value::{Items, Memory, Property, Symbol};
+use pr_value::{Items, Memory, Symbol};
 use property_classes::Classes;
 use rule_syntax::{Operator, QueryText, Setting, operator_descs};
 use rule_types::Accepted;
 use std::alloc::Global;
 
 // ---- files
-
-/// The value of a property, where the file has one.
-fn set_field(
-    alloc: Global,
-    fields: &Fields,
-    property: &Property,
-    place: usize,
-    desc: &mut Desc,
-) -> Result<(), Memory>
-    requires place { place < length desc.old }
-    ensures some { OnOk result (IfSome (field fields.now property.now.name)
-        (λ v. desc.new ≡ slice_set desc.old place v)) }
-    ensures none { OnOk result (IfNone (field fields.now property.now.name)
-        (desc.new ≡ desc.old)) }
-{
-    if let Some(value) = fields.get(&property.name) {
-        let value = value.copy(alloc)?;
-        desc.set(place, value);
-    }
-    Ok(())
-}
-
-/// The listed values of declared properties, and the defaults of the others.
-fn file_desc(alloc: Global, layout: &Layout, fields: &Fields) -> Result<Desc, Memory>
-    ensures { IfOk result (λ d. d ≡ spec.file_desc layout.now fields.now) }
-{
-    let mut desc = Desc::plain(alloc, layout)?;
-    for (place, property) in layout.as_slice().iter().enumerate() {
-        set_field(alloc, fields, property, place, &mut desc)?;
-    }
-    Ok(desc)
-}
-
-/// The descriptor of a file by what the catalog says of it.
-fn listed_desc(
-    alloc: Global,
-    layout: &Layout,
-    catalog: &Catalog,
-    name: &Symbol,
-) -> Result<Desc, Memory>
-    ensures { IfOk result
-        (λ d. d ≡ spec.file_desc layout.now (fields_in (entry catalog.now name.now))) }
-{
-    match catalog.file(name) {
-        FileEntry::Listed(fields) => file_desc(alloc, layout, fields),
-        FileEntry::Free | FileEntry::Unknown => Desc::plain(alloc, layout),
-    }
-}
 
 fn file_tree(alloc: Global, under: &Under, name: &Symbol) -> Result<Tree, Memory>
     requires right { IsRight (seen_rules under.now.rules.now) under.now.catalog.now
@@ -100,26 +52,6 @@ fn file_tree(alloc: Global, under: &Under, name: &Symbol) -> Result<Tree, Memory
 }
 
 // ---- operators
-
-/// The place of declaration of the operator of that name, from 0.
-fn operator_at(operators: &[Operator], name: &Symbol) -> usize
-    ensures { result ≡ steps.operator_at (map seen_operator operators.now) name.now }
-{
-    for (place, operator) in operators.iter().enumerate() {
-        if operator.name == *name {
-            return place;
-        }
-    }
-    operators.len()
-}
-
-/// The operator at a place.
-fn declared_at<'a>(operators: &'a [Operator], place: usize) -> &'a Operator
-    requires { place < length operators.now }
-    ensures { slice_get (map seen_operator operators.now) place ≡ Some (seen_operator result.now) }
-{
-    &operators[place]
-}
 
 fn set_one(alloc: Global, layout: &Layout, setting: &Setting, desc: &mut Desc) -> Result<(), Memory>
     requires long { length desc.old ≡ length layout.now }

@@ -4,9 +4,11 @@
 mod building;
 mod conditions;
 mod descs;
+mod files;
 mod i_steps;
 mod literals;
 mod matching;
+mod operators;
 mod parts;
 mod refusal;
 mod refusing;
@@ -15,6 +17,7 @@ mod t_steps;
 mod under;
 
 pub use building::build;
+pub use files::listed_desc;
 pub use i_steps::i_step;
 pub use refusal::QueryRefusal;
 pub use t_steps::t_step;

@@ -12,13 +12,14 @@ ghost use Rattle.query_tree.specs.SeenFound.{seen_found, seen_stream};
 ghost use Rattle.query_tree.specs.Steps as spec;
 ghost use Rattle.query_tree.specs.Trees.{IsTree};
 ghost use Rattle.rule_syntax.specs.Descs as descs;
-ghost use Rattle.rule_syntax.specs.Seen.{seen_left, seen_operator, seen_right, seen_right_in, seen_trule};
+ghost use Rattle.rule_syntax.specs.Seen.{seen_left, seen_right, seen_right_in, seen_trule};
 ghost use Rattle.rule_syntax.specs.SeenRules.{seen_rules};
 ghost use Rattle.rule_types.specs.Conditions.{has_number, is_unknown_right};
 ghost use Rattle.rule_types.specs.Uses.{any_node, any_nodes};
 
 use crate::descs::desc_of;
 use crate::matching::{Found, Stream, find_match};
+use crate::operators::operator_at;
 use crate::scopes::{env_over, passes};
 use crate::under::Under;
 use action_eval::{Env, run_statements};
@@ -26,7 +27,7 @@ use catalog::Catalog;
 use descriptor_types::{Desc, Layout, Tree};
 use pr_value::{Items, Memory, Symbol};
 use property_classes::Classes;
-use rule_syntax::{Operator, Right, RightIn, TRule, trule_descs};
+use rule_syntax::{Right, RightIn, TRule, trule_descs};
 use rule_types::Accepted;
 use std::alloc::Global;
 
@@ -90,18 +91,6 @@ fn trule_run<'a>(
     }
     run_statements(alloc, rule.body.post.as_slice(), &mut env, under.catalog)?;
     Ok(Some(env))
-}
-
-/// The number of the operator of that name: its place of declaration, from 0.
-fn operator_at(operators: &[Operator], name: &Symbol) -> usize
-    ensures { result ≡ spec.operator_at (map seen_operator operators.now) name.now }
-{
-    for (i, operator) in operators.iter().enumerate() {
-        if operator.name == *name {
-            return i;
-        }
-    }
-    operators.len()
 }
 
 /// The tree that the stream of that number stands for.

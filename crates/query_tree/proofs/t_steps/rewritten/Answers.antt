@@ -6,16 +6,16 @@ use Rattle.rule_syntax.specs.Descs.{trule_descs}
 use Rattle.rule_types.specs.Conditions.{is_unknown_right}
 use Rattle.rule_types.specs.Uses.{any_node}
 use Rattle.query_tree.specs.Applied.{IsReady}
-use Rattle.query_tree.specs.Scopes.{root_of}
 use Rattle.query_tree.specs.SeenFound.{seen_found, seen_stream}
 use Rattle.query_tree.specs.Steps.{made}
 use Rattle.query_tree.specs.Trees.{IsTree}
 use Rattle.query_tree.specs.declared.matching.Stream as stream
-use Rattle.query_tree.proofs.AskedLaws.{root-IsDesc}
 use Rattle.rule_syntax.specs.Seen.{seen_trule}
 use Rattle.rule_syntax.specs.SeenRules.{seen_rules}
 use Rattle.query_tree.proofs.AcceptedFacts.{accepted-operators, trule_facts}
 use Rattle.query_tree.proofs.FoundLaws.{every-fits}
+use Rattle.query_tree.proofs.SoundLaws.{plain-sound}
+use Rattle.rule_types.proofs.AcceptedCosts.{accepted-one_cost}
 use Rattle.query_tree.proofs.StepLaws.{known-right, rewritten-IsTree}
 use Rattle.query_tree.proofs.t_steps.rewritten.Goals as goal
 
@@ -41,4 +41,4 @@ returns-clause-tree c =
     let ready = subst (λ o. IfSome o (λ e. IsReady r (trule_descs t) (seen_env e))) c.in-Some.is c.in_ok-env.ensures.ready in
     let made_tree = c.in_ok-tree.ensures ∙ ap (λ (ss : List stream.Stream). made r.operators env.descs (map seen_stream ss) t.right) c.as_slice.ensures.value in
     subst (λ (u : Tree Label). IsTree r catalog u) (sym made_tree)
-    (rewritten-IsTree r catalog t f (root_of f.slots) env (accepted-operators r c.args.under.now.accepted) (trule_facts r c.args.under.now.accepted t c.requires.rule) c.requires.found (root-IsDesc r catalog t.left f c.requires.found) ready ran)
+    (rewritten-IsTree r catalog t f env (accepted-operators r c.args.under.now.accepted) (trule_facts r c.args.under.now.accepted t c.requires.rule) c.requires.found (plain-sound r (accepted-one_cost r c.args.under.now.accepted)) ready ran)

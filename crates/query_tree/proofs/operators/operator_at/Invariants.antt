@@ -1,7 +1,7 @@
 use Rattle.std.proofs.Common.{◌≡◌, ◌+◌, drop, map}
 use Rattle.query_tree.specs.Steps.{operator_at}
 use Rattle.rule_syntax.specs.Seen.{seen_operator}
-use Rattle.query_tree.proofs.building.operator_at.Given as goal
+use Rattle.query_tree.proofs.operators.operator_at.Given as goal
 
 -- it stands among the rest
 abbrev pub invariant-loop-place : goal.invariant-loop-place

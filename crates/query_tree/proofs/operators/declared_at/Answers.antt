@@ -1,6 +1,6 @@
 use Rattle.rule_syntax.specs.Seen.{seen_operator}
-use Rattle.query_tree.proofs.BuildLaws.{slice_get-map}
-use Rattle.query_tree.proofs.building.declared_at.Goals as goal
+use Rattle.query_tree.proofs.AcceptedFacts.{slice_get-map}
+use Rattle.query_tree.proofs.operators.declared_at.Goals as goal
 
 pub returns : goal.returns
 returns c = slice_get-map seen_operator c.args.operators.now c.args.place c.index-operators-place.result c.requires c.index-operators-place.is

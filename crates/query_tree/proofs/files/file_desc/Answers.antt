@@ -1,7 +1,7 @@
 use Rattle.std.proofs.Common.{◌<◌, ◌∙◌, List, ap, get_or, length, arith}
 use Rattle.pr_value.specs.declared.property.Property.{Property}
 use Rattle.query_tree.proofs.DescLaws.{field_more}
-use Rattle.query_tree.proofs.building.file_desc.Goals as goal
+use Rattle.query_tree.proofs.files.file_desc.Goals as goal
 
 pub loop-place-preserved : goal.loop-place-preserved
 loop-place-preserved c =
