@@ -2,6 +2,7 @@
 //! otherwise than they say.
 #![tactic(auto)]
 
+mod listed;
 mod members;
 mod prints;
 mod reads;

@@ -5,6 +5,7 @@ ghost use Rattle.property_classes.specs.Classes.{classes_of};
 ghost use Rattle.query_tree.specs.Trees.{IsTree};
 ghost use Rattle.rule_syntax.specs.SeenRules.{seen_rules};
 
+use crate::listed::plan_of;
 use crate::members::{items, said, said_string, string};
 use crate::prints::rules_of;
 use crate::report::Report;
@@ -15,6 +16,7 @@ use crate::values::catalog_of;
 use action_eval::IStep;
 use catalog::Catalog;
 use descriptor_types::Tree;
+use plan_form::implements;
 use pr_value::Text;
 use property_classes::Classes;
 use query_tree::{QueryRefusal, build, i_step, t_step};
@@ -80,7 +82,7 @@ fn said_text(
 }
 
 /// Under what a row builds its tree and takes its rule.
-#[derive(Drop)]
+#[derive(Clone, Copy)]
 struct Under<'a> {
     accepted: &'a Accepted,
     classes: &'a Classes,
@@ -112,7 +114,8 @@ fn came_of(
     }
 }
 
-/// The tree, or what the row's T-rule makes of it, or what its I-rule asks and costs there.
+/// The tree, or what the row's T-rule makes of it, or what its I-rule asks and costs there, or
+/// whether its plan implements it.
 fn told(alloc: Global, under: &Under<'_>, row: &Json, tree: &Tree) -> Result<Text, Trouble>
     requires classes { under.now.classes.now ≡ classes_of (seen_rules under.now.accepted.now.rules) }
     requires tree { IsTree (seen_rules under.now.accepted.now.rules) under.now.catalog.now
@@ -123,6 +126,8 @@ fn told(alloc: Global, under: &Under<'_>, row: &Json, tree: &Tree) -> Result<Tex
         tell_rewritten(alloc, under, string(json, "trule")?, tree, &mut out)?;
     } else if let Some(json) = row.get("irule") {
         tell_implemented(alloc, under, string(json, "irule")?, tree, &mut out)?;
+    } else if let Some(json) = row.get("plan") {
+        tell_plan(alloc, under, json, tree, &mut out)?;
     } else {
         push_tree(alloc, &under.accepted.rules, tree, 0, &mut out)?;
     }
@@ -173,6 +178,32 @@ fn tell_implemented(
                 None => out.push_bytes(b"none\n")?,
             }
         }
+    }
+    Ok(())
+}
+
+/// Whether the listed plan implements the tree.
+fn tell_plan(
+    alloc: Global,
+    under: &Under<'_>,
+    nodes: &Json,
+    tree: &Tree,
+    out: &mut Text,
+) -> Result<(), Trouble>
+    requires classes { under.now.classes.now ≡ classes_of (seen_rules under.now.accepted.now.rules) }
+    requires tree { IsTree (seen_rules under.now.accepted.now.rules) under.now.catalog.now
+        (seen_tree tree.now) }
+{
+    let Under {
+        accepted,
+        classes,
+        catalog,
+    } = *under;
+    let plan = plan_of(alloc, accepted, nodes)?;
+    if implements(alloc, accepted, classes, catalog, &plan, tree)? {
+        out.push_bytes(b"implements\n")?;
+    } else {
+        out.push_bytes(b"does not implement\n")?;
     }
     Ok(())
 }

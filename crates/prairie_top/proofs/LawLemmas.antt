@@ -1,5 +1,5 @@
 -- The causes of answers exclude each other.
-use Rattle.std.proofs.Common.{◌≡◌, ℕ, ◌<◌, true, false, List, [], ◌∷◌, map, Option, Some, None, refl, ap, sym, ◌∙◌, subst, arith, inl, inr}
+use Rattle.std.proofs.Common.{◌≡◌, ℕ, ◌<◌, List, [], ◌∷◌, map, Option, Some, None, refl, ap, sym, ◌∙◌, subst, arith, inl, inr}
 use Rattle.std.specs.Prelude.{◌⊎◌, ◌≢◌, codes}
 use Rattle.pr_outside.specs.Counts.{last_count, Still}
 use Rattle.pr_outside.specs.Files.{Files}
@@ -18,7 +18,6 @@ use Rattle.prairie_top.specs.declared.stage.Refusal.{Refusal}
 use Rattle.prairie_top.specs.declared.stage.Refusal.TheVariants.{TooLong, BadByte, NumberTooBig, NameTooLong, BadSyntax, TooDeep, NotJson, BadShape, NotAccepted, TooManyNodes, UnknownOperator, UnknownFile, Arity, UnknownProperty, WrongType, Unbuilt}
 use Rattle.prairie_top.specs.declared.status.Status.{Status}
 use Rattle.prairie_top.specs.declared.status.Status.TheVariants as status
-use Rattle.prairie_top.specs.Form.{is_planned}
 use Rattle.query_tree.specs.Refusals.{refusal_of}
 use Rattle.prairie_top.specs.Messages.{no_plan_text, usage_text, memory_text}
 use Rattle.prairie_top.specs.Reading.{HasTokens, HasNoTokens, Grammar, Reads, IsRefusedText, no_tokens, unread, refused, IsRefusedRules, IsRefusedQuery, rules_grammar, query_grammar, ReadsCatalog, IsRefusedCatalog}
@@ -47,15 +46,12 @@ record IsApart {V : Type 0} (g : Grammar V) : Type 1 where
   distinct : (v w : V) (ts : Text) → g.Spells v ts → g.Spells w ts → v ≡ w
   apart : (v : V) (refusal : Refusal) → g.Accepts v → g.Refuses v refusal → ⊥
 
-true_not_false : (b : _) → b ≡ true → b ≡ false → ⊥
-true_not_false b t f = let clash : true ≡ false = sym t ∙ f in cc clash
-
 none_not_some : {A : Type 0} {x : A} (o : Option A) → o ≡ None → o ≡ Some x → ⊥
 none_not_some {A} {x} o n s = let clash : None ≡ Some x = sym n ∙ s in cc clash
 
-rules_not_both : (r : Rules) (refusal : Refusal) → (refused_by r ≡ None) × (is_planned r ≡ true) → IsRefusedRules r refusal → ⊥
+rules_not_both : (r : Rules) (refusal : Refusal) → (refused_by r ≡ None) × (r.trules ≡ []) → IsRefusedRules r refusal → ⊥
 rules_not_both r (NotAccepted kind name) accepts refuses = let clash : None ≡ Some (record { kind = kind; name = name }) = sym accepts.0 ∙ refuses in cc clash
-rules_not_both r Unbuilt accepts refuses = true_not_false _ accepts.1 refuses.1
+rules_not_both r Unbuilt accepts refuses = refuses.1 accepts.1
 rules_not_both r TooLong accepts refuses = refuses
 rules_not_both r (BadByte at) accepts refuses = refuses
 rules_not_both r (NumberTooBig at) accepts refuses = refuses
@@ -163,11 +159,11 @@ catalog_not_refused c (WrongType name) bytes is why = why
 -- ---- the answers to `plan`
 
 -- a best plan and the lack of one exclude each other
-pub one_outcome : (r : Rules) (c d : Catalog) (q : Query) (o p : Outcome) → IsOutcome r c q o → IsOutcome r d q p → outcome_status o ≡ outcome_status p
-one_outcome r c d q (planned x) (planned y) h k = refl
-one_outcome r c d q (planned x) unplanned h k = absurd (k x h.0)
-one_outcome r c d q unplanned (planned y) h k = absurd (h y k.0)
-one_outcome r c d q unplanned unplanned h k = refl
+pub one_outcome : (r : Rules) (c : Catalog) (q : Query) (o p : Outcome) → IsOutcome r c q o → IsOutcome r c q p → outcome_status o ≡ outcome_status p
+one_outcome r c q (planned x) (planned y) h k = refl
+one_outcome r c q (planned x) unplanned h k = absurd (k x h.0)
+one_outcome r c q unplanned (planned y) h k = absurd (h y k.0)
+one_outcome r c q unplanned unplanned h k = refl
 
 module _ (laws : Laws) (names : Names) (fetches : Fetches) where
   decides_settles : (r : Rules) (c : Catalog) (q : Query) → Settles fetches (Decides r c q fetches)
@@ -187,13 +183,13 @@ module _ (laws : Laws) (names : Names) (fetches : Fetches) where
     rules_clear r = read_not_refused laws rules_grammar (rules_apart laws) r
 
     module _ (below : fetches.before < last_count) where
-      one_decision : (r : Rules) (c d : Catalog) (q p : Query) → q ≡ p → One (Decides r c q fetches) (Decides r d p fetches)
-      one_decision r c d q p same a b x y h k = h.status ∙ (one_outcome r c d p h.outcome k.outcome (subst (λ (z : Query). IsOutcome r c z h.outcome) same h.comes) k.comes ∙ sym k.status)
+      one_decision : (r : Rules) (c : Catalog) (q p : Query) → q ≡ p → One (Decides r c q fetches) (Decides r c p fetches)
+      one_decision r c q p same a b x y h k = h.status ∙ (one_outcome r c p h.outcome k.outcome (subst (λ (z : Query). IsOutcome r c z h.outcome) same h.comes) k.comes ∙ sym k.status)
 
       one_catalog : (r : Rules) (c : Catalog) → One (CatalogComes r c names fetches) (CatalogComes r c names fetches)
       one_catalog r c =
           chain_one (query_source r c names.query) fetches (λ q. Decides r c q fetches) files tells (query_clear r c) below
-          (λ q p bytes h k. one_decision r c c q p (one_value laws (query_grammar r c) (query_apart laws r c) q p bytes h k)) (decides_settles r c)
+          (λ q p bytes h k. one_decision r c q p (one_value laws (query_grammar r c) (query_apart laws r c) q p bytes h k)) (decides_settles r c)
 
       one_rules : (r : Rules) → One (RulesComes r names fetches) (RulesComes r names fetches)
       one_rules r =

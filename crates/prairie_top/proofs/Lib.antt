@@ -1,9 +1,6 @@
+mod BuiltLaws
 mod ChainLaws
 pub mod ExistsLaws
-pub mod FormLaws
 mod LawLemmas
-mod PlanTextLaws
 mod ReadingLaws
-mod SearchLaws
-mod SeenLaws
 mod TopLaws

@@ -3,6 +3,7 @@ use Rattle.std.proofs.Common.{◌≡◌, ℕ, List, [], ◌∷◌, length, get_o
 use Rattle.std.specs.Prelude.{Result, Ok, Err, IfOk}
 use Rattle.catalog.specs.Contents.{Catalog}
 use Rattle.rule_syntax.specs.Syntax.{Rules, Query}
+use Rattle.query_tree.specs.Query.{query_tree}
 use Rattle.prairie_top.specs.declared.status.Status.{Status}
 use Rattle.prairie_top.specs.declared.status.Status.TheVariants as status
 use Rattle.prairie_top.specs.Run.{Fetches, Names, ArePlanWords, Command, plan, Means}
@@ -19,8 +20,8 @@ four_items (w ∷ x ∷ y ∷ []) a b c d n p q r s = absurd (omega (arith, n))
 four_items (w ∷ x ∷ y ∷ z ∷ []) a b c d n p q r s = cc
 four_items (w ∷ x ∷ y ∷ z ∷ v ∷ vs) a b c d n p q r s = absurd (omega (arith, n))
 
--- what is decided is the outcome's answer
-pub decides : (r : Rules) (c : Catalog) (q : Query) (fetches : Fetches) (came : Status) (text : List ℕ) → AllFetched fetches → IsDecided r q came text → Decides r c q fetches came text
+-- what is decided of the query's tree is the outcome's answer
+pub decides : (r : Rules) (c : Catalog) (q : Query) (fetches : Fetches) (came : Status) (text : List ℕ) → AllFetched fetches → IsDecided r c (query_tree r c q) came text → Decides r c q fetches came text
 decides r c q fetches status.Done text all h = record { outcome = planned h.0; comes = h.1; fetched = all; status = refl; is = h.2 }
 decides r c q fetches status.NoPlan text all h = record { outcome = unplanned; comes = h.0; fetched = all; status = refl; is = h.1 }
 decides r c q fetches status.Usage text all h = absurd h

@@ -1,5 +1,5 @@
 -- Laws of what a run may come to, and of printed rule sets.
-use Rattle.std.specs.Prelude.{◌≡◌, ◌≢◌, ℕ, ◌<◌, true, List, Some, ◌⊎◌, ⊤}
+use Rattle.std.specs.Prelude.{◌≡◌, ◌≢◌, ℕ, ◌<◌, true, List, Some, None, ◌⊎◌, ⊤}
 use Rattle.pr_outside.specs.Counts.{last_count, Still}
 use Rattle.pr_outside.specs.Files.{Files, held_under}
 use Rattle.catalog.specs.Contents.{Catalog}
@@ -7,12 +7,15 @@ use Rattle.pr_value.specs.TokenTexts.{spaced}
 use Rattle.rule_syntax.specs.Syntax.{Rules, Query}
 use Rattle.rule_syntax.specs.Spelled.{spells}
 use Rattle.rule_syntax.specs.Tokens.{tokens_of}
+use Rattle.rule_types.specs.Conditions.{refused_by}
+use Rattle.plan_form.specs.Plans.{Plan, cost}
+use Rattle.query_tree.specs.Refusals.{refusal_of}
 use Rattle.prairie_top.specs.declared.status.Status.{Status}
 use Rattle.prairie_top.specs.declared.status.Status.TheVariants as status
 use Rattle.prairie_top.specs.Reading.{HasTokens}
 use Rattle.prairie_top.specs.Run.{Fetches, Puts, Names, plan, Means}
 use Rattle.prairie_top.specs.Sources.{IsRead}
-use Rattle.prairie_top.specs.Outcome.{Outcome, IsOutcome, outcome_status, outcome_text, rules_source, catalog_source, query_source, PlanComes, Comes, PutsAll, PutsOnce, Ends}
+use Rattle.prairie_top.specs.Outcome.{Outcome, planned, IsOutcome, outcome_status, outcome_text, rules_source, catalog_source, query_source, PlanComes, Comes, PutsAll, PutsOnce, Ends}
 
 -- over a shelf that tells its files, and whose count is below its end, a run comes to one answer,
 -- want of memory apart
@@ -23,11 +26,20 @@ OneAnswer =
     → Comes words fetches one text → Comes words fetches other text'
     → (one ≡ other) ⊎ ((one ≡ status.Memory) ⊎ (other ≡ status.Memory))
 
--- rules, a catalog and a query come to an outcome, and all their outcomes have one status
+-- accepted rules, a catalog and a query that builds a tree come to an outcome, and all their
+-- outcomes have one status; other rules could ask a tree of itself without end, where a left side
+-- is a stream alone
 abbrev pub OneExists : Type 0
 OneExists =
-    (r : Rules) (c : Catalog) (q : Query) → (o : Outcome) × IsOutcome r c q o
+    (r : Rules) (c : Catalog) (q : Query) → spells r ≡ true → refused_by r ≡ None
+    → refusal_of r c q ≡ None → (o : Outcome) × IsOutcome r c q o
     × ((other : Outcome) → IsOutcome r c q other → outcome_status other ≡ outcome_status o)
+
+-- all plans that rules, a catalog and a query come to have one cost
+abbrev pub OneCost : Type 0
+OneCost =
+    (r : Rules) (c : Catalog) (q : Query) (p other : Plan) → IsOutcome r c q (planned p)
+    → IsOutcome r c q (planned other) → cost r p ≡ cost r other
 
 -- the answer leaves its text no choice
 abbrev pub HasOneText : Status → Type 0

@@ -1,12 +1,8 @@
-pub mod Form
 pub mod Laws
 pub mod Messages
 pub mod Outcome
-pub mod PlanText
-pub mod Plans
 pub mod Reading
 pub mod Run
-pub mod Search
 pub mod SeenNames
 pub mod Sources
 pub mod Stages

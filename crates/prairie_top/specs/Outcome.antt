@@ -3,10 +3,11 @@ use Rattle.std.specs.Prelude.{◌≡◌, ℕ, List, codes, ◌⊎◌}
 use Rattle.pr_outside.specs.Counts.{Rose}
 use Rattle.pr_outside.specs.Written.{Appends, AppendsPrefix}
 use Rattle.catalog.specs.Contents.{Catalog}
+use Rattle.plan_form.specs.Plans.{Plan, Best, NoPlan}
+use Rattle.plan_form.specs.PlanText.{plan_text}
+use Rattle.query_tree.specs.Query.{query_tree}
 use Rattle.rule_syntax.specs.Syntax.{Rules, Query}
 use Rattle.prairie_top.specs.Messages.{usage_text, no_plan_text, memory_text}
-use Rattle.prairie_top.specs.PlanText.{plan_text}
-use Rattle.prairie_top.specs.Plans.{Plan, Best, NoPlan}
 use Rattle.prairie_top.specs.Reading.{Reads, IsRefusedText, rules_grammar, query_grammar, ReadsCatalog, IsRefusedCatalog}
 use Rattle.prairie_top.specs.Run.{Fetches, Puts, Names, Command, plan, Means}
 use Rattle.prairie_top.specs.Sources.{Source, AllFetched, Chain}
@@ -20,17 +21,17 @@ pub data Outcome : Type 0 where
   planned : Plan → Outcome
   unplanned : Outcome
 
--- the plan is a best one of the query, or no plan implements it
+-- the plan is a best one of the query's tree, or no plan implements that
 abbrev pub IsOutcome : Rules → Catalog → Query → Outcome → Type 0
-IsOutcome r c q (planned p) = Best r.irules q p
-IsOutcome r c q unplanned = NoPlan r.irules q
+IsOutcome r c q (planned p) = Best r c (query_tree r c q) p
+IsOutcome r c q unplanned = NoPlan r c (query_tree r c q)
 
 abbrev pub outcome_status : Outcome → Status
 outcome_status (planned p) = status.Done
 outcome_status unplanned = status.NoPlan
 
 abbrev pub outcome_text : Rules → Outcome → List ℕ
-outcome_text r (planned p) = plan_text r.irules p
+outcome_text r (planned p) = plan_text r p
 outcome_text r unplanned = no_plan_text
 
 -- ---- the texts of a command

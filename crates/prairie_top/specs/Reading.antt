@@ -1,5 +1,5 @@
 -- What the bytes of a text read as, and why they are refused for what they say.
-use Rattle.std.specs.Prelude.{◌≡◌, ℕ, true, false, List, length, map, Some, None}
+use Rattle.std.specs.Prelude.{◌≡◌, ◌≢◌, ℕ, List, [], length, map, Some, None}
 use Rattle.serde_json.specs.Data.{Data}
 use Rattle.catalog.specs.Contents.{Catalog}
 use Rattle.catalog.specs.Shape.{IsJson, first_bad, Says}
@@ -12,7 +12,6 @@ use Rattle.rule_syntax.specs.Places.{IsPlace}
 use Rattle.rule_syntax.specs.Levels.{IsRules, IsQuery}
 use Rattle.query_tree.specs.Refusals.{refusal_of}
 use Rattle.query_tree.specs.declared.refusal.QueryRefusal.TheVariants as told
-use Rattle.prairie_top.specs.Form.{is_planned}
 use Rattle.prairie_top.specs.declared.stage.Refusal.{Refusal}
 use Rattle.prairie_top.specs.declared.stage.Refusal.TheVariants.{BadByte, NumberTooBig, NameTooLong, BadSyntax, TooDeep, NotJson, BadShape, NotAccepted, TooManyNodes, UnknownOperator, UnknownFile, Arity, UnknownProperty, WrongType, Unbuilt}
 use Rattle.rule_types.specs.Conditions.{refused_by}
@@ -54,18 +53,17 @@ module _ {V : Type 0} (g : Grammar V) where
     refused : (v : V) (ts : Text) → HasTokens bytes ts → g.Spells v ts → g.Refuses v refusal
         → IsRefusedText refusal bytes
 
--- a condition of refusal holds of the rule set; or none does, and it is not of the form that is
--- planned
+-- a condition of refusal holds of the rule set; or none does, and it has a T-rule
 abbrev pub IsRefusedRules : Rules → Refusal → Type 0
 IsRefusedRules r (NotAccepted kind name) = refused_by r ≡ Some (record { kind = kind; name = name })
-IsRefusedRules r Unbuilt = (refused_by r ≡ None) × (is_planned r ≡ false)
+IsRefusedRules r Unbuilt = (refused_by r ≡ None) × (r.trules ≢ [])
 IsRefusedRules r _ = ⊥
 
--- rule sets, of which those are accepted in which no condition holds, and which are planned
+-- rule sets, of which those are accepted in which no condition holds, and which have no T-rule
 abbrev pub rules_grammar : Grammar Rules
 rules_grammar = record {
   Spells = IsRules;
-  Accepts = λ r. (refused_by r ≡ None) × (is_planned r ≡ true);
+  Accepts = λ r. (refused_by r ≡ None) × (r.trules ≡ []);
   Refuses = IsRefusedRules;
 }
 

@@ -4,9 +4,14 @@ use Rattle.std.specs.Prelude.{◌≡◌, ℕ, ◌<◌, List, length, Result, Ok,
 use Rattle.pr_outside.specs.Files.{MayFail}
 use Rattle.pr_outside.specs.Counts.{Rose}
 use Rattle.prairie_top.specs.Messages.{refusal_text, fault_text, no_plan_text}
-use Rattle.prairie_top.specs.Plans.{Plan, Best, NoPlan}
-use Rattle.prairie_top.specs.PlanText.{plan_text}
+use Rattle.catalog.specs.Contents.{Catalog}
+use Rattle.descriptor_types.specs.Labels.{Label}
+use Rattle.plan_form.specs.Plans.{Plan, Best, NoPlan}
+use Rattle.plan_form.specs.PlanText.{plan_text}
 use Rattle.pr_value.specs.Placed.{Placed, tokens_in}
+use Rattle.pr_value.specs.Trees.{Tree}
+use Rattle.query_tree.specs.Query.{query_tree}
+use Rattle.query_tree.specs.Trees.{IsTree}
 use Rattle.rule_lex.specs.Lexes.{Lexes}
 use Rattle.rule_syntax.specs.Syntax.{Rules, Query}
 use Rattle.prairie_top.specs.Run.{Fetches, Told}
@@ -86,8 +91,12 @@ IsStopped word name (stop.Refused refusal) came text =
 IsStopped word name stop.Failed came text = (came ≡ status.ReadFault) × (text ≡ fault_text name)
 IsStopped word name stop.Memory came text = ⊥
 
--- the text is that of a best plan, or there is no plan
-abbrev pub IsDecided : Rules → Query → Status → List ℕ → Type 0
-IsDecided r q status.Done text = (p : Plan) × Best r.irules q p × (text ≡ plan_text r.irules p)
-IsDecided r q status.NoPlan text = NoPlan r.irules q × (text ≡ no_plan_text)
-IsDecided r q _ text = ⊥
+-- the tree is the query's, and one of the rule set and the catalog
+abbrev pub IsBuilt : Rules → Catalog → Query → Tree Label → Type 0
+IsBuilt r c q t = (t ≡ query_tree r c q) × IsTree r c t
+
+-- the text is that of a best plan of the tree, or there is no plan
+abbrev pub IsDecided : Rules → Catalog → Tree Label → Status → List ℕ → Type 0
+IsDecided r c t status.Done text = (p : Plan) × Best r c t p × (text ≡ plan_text r p)
+IsDecided r c t status.NoPlan text = NoPlan r c t × (text ≡ no_plan_text)
+IsDecided r c t _ text = ⊥

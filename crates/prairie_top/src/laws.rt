@@ -1,15 +1,17 @@
-ghost use Rattle.prairie_top.specs.Laws.{OneExists, OneAnswer, OneText, Complete, NeverFails, NeverUnwritten, PrintsTokens};
+ghost use Rattle.prairie_top.specs.Laws.{OneExists, OneCost, OneAnswer, OneText, Complete, NeverFails, NeverUnwritten, PrintsTokens};
 
 use catalog::catalog_laws;
 use rule_lex::token_laws;
 use rule_syntax::spelling_laws;
 
-/// There is a best plan or none at all, and not both. The answers of `run` exclude each other, and
-/// some have one text; `plan` over texts that are read ends with the outcome, or for want of memory,
-/// where nothing fails; a shelf that is sure and holds the texts is no cause of a read fault, and a
-/// sink that does not fail of no write fault.
+/// Where accepted rules have a tree of the query, there is a best plan or none at all, and not both;
+/// all best plans have one cost. The answers of `run` exclude each other, and some have one text;
+/// `plan` over texts that are read ends with the outcome, or for want of memory, where nothing
+/// fails; a shelf that is sure and holds the texts is no cause of a read fault, and a sink that does
+/// not fail of no write fault.
 pub fn outcome_laws()
     ensures one_exists { OneExists }
+    ensures one_cost { OneCost }
     ensures one_answer { OneAnswer }
     ensures one_text { OneText }
     ensures complete { Complete }

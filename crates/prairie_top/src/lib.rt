@@ -1,15 +1,10 @@
 //! The top call: from words to an answer.
 #![tactic(auto)]
 
-mod cost;
-mod form;
 mod laws;
 mod messages;
 mod names;
-mod plan;
-mod plan_text;
 mod reading;
-mod search;
 mod source;
 mod stage;
 mod status;

@@ -1,17 +1,18 @@
-// From texts to rule sets, catalogs and queries that are planned, or why they are refused.
-ghost use Rattle.std.specs.Prelude.{◌≡◌, true, false, map, IfOk, IfErr};
+// From texts to accepted rule sets, catalogs and queries with their trees, or why they are refused.
+ghost use Rattle.std.specs.Prelude.{◌≡◌, [], ⊤, Decides, IfOk};
+ghost use Rattle.descriptor_types.specs.Labels.{seen_tree};
 ghost use Rattle.rule_syntax.specs.Levels.{IsRules, IsQuery};
 ghost use Rattle.rule_syntax.specs.Seen.{seen_query};
 ghost use Rattle.rule_syntax.specs.SeenRules.{seen_rules};
 ghost use Rattle.rule_syntax.specs.Tokens.{Text as SeenText};
 ghost use Rattle.prairie_top.specs.Reading.{HasNoTokens, Reads, IsRefusedText, rules_grammar, query_grammar, ReadsCatalog, IsRefusedCatalog};
-ghost use Rattle.prairie_top.specs.Stages.{IsReading, ArePlaced, IsOfTokens, IsAccepting, of_accept_error, of_query_refusal};
+ghost use Rattle.prairie_top.specs.Stages.{IsReading, ArePlaced, IsOfTokens, IsAccepting, IsBuilt, of_accept_error, of_query_refusal};
 ghost use Rattle.property_classes.specs.Classes.{classes_of};
 
-use crate::form::is_planned;
 use crate::source::FromText;
 use crate::stage::{Refusal, TextError};
 use catalog::{Catalog, CatalogError, read_catalog};
+use descriptor_types::Tree;
 use pr_value::{Memory, Tokens};
 use property_classes::Classes;
 use query_tree::{QueryRefusal, build};
@@ -33,16 +34,22 @@ fn tokens_of(alloc: Global, text: &[u8]) -> Result<Tokens, TextError>
     }
 }
 
-/// The rule set as one that is accepted, where it is planned.
+fn is_without_trules(rules: &Rules) -> bool
+    ensures { Decides result ((seen_rules rules.now).trules ≡ []) }
+{
+    rules.trules.as_slice().is_empty()
+}
+
+/// The rule set as one that is accepted, where it has no T-rule.
 fn accepted(alloc: Global, rules: Rules) -> Result<Accepted, TextError>
     ensures { IsAccepting rules_grammar (λ a. seen_rules a.rules) (seen_rules rules) result }
 {
     match accept(alloc, rules) {
         Ok(accepted) => {
-            if is_planned(accepted.rules()) {
-                return Ok(accepted);
+            if !is_without_trules(accepted.rules()) {
+                return Err(TextError::Refused(Refusal::Unbuilt));
             }
-            Err(TextError::Refused(Refusal::Unbuilt))
+            Ok(accepted)
         }
         Err(back) => {
             let (_, error) = back;
@@ -62,7 +69,7 @@ fn not_accepted(error: AcceptError) -> TextError
     }
 }
 
-/// The rule set of these tokens, where it is accepted and planned.
+/// The rule set of these tokens, where it is accepted and has no T-rule.
 fn rules_of(alloc: Global, ts: &Tokens) -> Result<Accepted, TextError>
     ensures { IsOfTokens rules_grammar (λ a. seen_rules a.rules) ts.now result }
 {
@@ -74,28 +81,41 @@ fn rules_of(alloc: Global, ts: &Tokens) -> Result<Accepted, TextError>
     }
 }
 
-/// The query of these tokens, where it is planned with the rules.
-fn query_of(alloc: Global, under: &Under<'_>, ts: &Tokens) -> Result<QueryText, TextError>
-    ensures { IsOfTokens
-        (query_grammar (seen_rules under.now.accepted.now.rules) under.now.catalog.now) seen_query
-        ts.now result }
+/// A query with its tree.
+#[derive(Drop)]
+pub struct Built {
+    pub query: QueryText,
+    pub tree: Tree,
+}
+
+/// The query of these tokens, where it builds a tree.
+fn query_of(alloc: Global, under: &Under<'_>, ts: &Tokens) -> Result<Built, TextError>
+    ensures read { IsOfTokens
+        (query_grammar (seen_rules under.now.accepted.now.rules) under.now.catalog.now)
+        (λ b. seen_query b.query) ts.now result }
+    ensures sound { IfOk result
+        (λ b. IsBuilt (seen_rules under.now.accepted.now.rules) under.now.catalog.now
+        (seen_query b.query) (seen_tree b.tree)) }
 {
     match read_query(alloc, ts) {
-        Ok(query) => built(alloc, under, query),
+        Ok(query) => with_tree(alloc, under, query),
         Err(SyntaxError::BadSyntax { at }) => Err(TextError::Refused(Refusal::BadSyntax { at })),
         Err(SyntaxError::TooDeep { at }) => Err(TextError::Refused(Refusal::TooDeep { at })),
         Err(SyntaxError::Memory) => Err(TextError::Memory),
     }
 }
 
-/// The query, where it builds a tree.
-fn built(alloc: Global, under: &Under<'_>, query: QueryText) -> Result<QueryText, TextError>
-    ensures { IsAccepting
-        (query_grammar (seen_rules under.now.accepted.now.rules) under.now.catalog.now) seen_query
-        (seen_query query) result }
+/// The query with its tree, where it builds one.
+fn with_tree(alloc: Global, under: &Under<'_>, query: QueryText) -> Result<Built, TextError>
+    ensures accepting { IsAccepting
+        (query_grammar (seen_rules under.now.accepted.now.rules) under.now.catalog.now)
+        (λ b. seen_query b.query) (seen_query query) result }
+    ensures sound { IfOk result
+        (λ b. IsBuilt (seen_rules under.now.accepted.now.rules) under.now.catalog.now
+        (seen_query b.query) (seen_tree b.tree)) }
 {
     match build(alloc, under.accepted, under.classes, under.catalog, &query) {
-        Ok(_tree) => Ok(query),
+        Ok(tree) => Ok(Built { query, tree }),
         Err(refusal) => Err(not_built(refusal)),
     }
 }
@@ -123,6 +143,8 @@ impl FromText<()> for Accepted {
 
     ghost refuses = { λ _. IsRefusedText rules_grammar };
 
+    ghost sound = { λ _ _. ⊤ };
+
     fn from_text(alloc: Global, _context: &(), text: &[u8]) -> Result<Accepted, TextError> {
         match tokens_of(alloc, text) {
             Ok(ts) => rules_of(alloc, &ts),
@@ -135,6 +157,8 @@ impl FromText<()> for Catalog {
     ghost reads = { λ _. ReadsCatalog };
 
     ghost refuses = { λ _. IsRefusedCatalog };
+
+    ghost sound = { λ _ _. ⊤ };
 
     fn from_text(alloc: Global, _context: &(), text: &[u8]) -> Result<Catalog, TextError> {
         match read_catalog(alloc, text) {
@@ -157,12 +181,14 @@ pub struct Under<'a> {
     pub ghost classed: { classes.now ≡ classes_of (seen_rules accepted.now.rules) },
 }
 
-impl<'a> FromText<Under<'a>> for QueryText {
-    ghost reads = { λ u q. Reads (query_grammar (seen_rules u.accepted.now.rules) u.catalog.now) (seen_query q) };
+impl<'a> FromText<Under<'a>> for Built {
+    ghost reads = { λ u b. Reads (query_grammar (seen_rules u.accepted.now.rules) u.catalog.now) (seen_query b.query) };
 
     ghost refuses = { λ u. IsRefusedText (query_grammar (seen_rules u.accepted.now.rules) u.catalog.now) };
 
-    fn from_text(alloc: Global, under: &Under<'a>, text: &[u8]) -> Result<QueryText, TextError> {
+    ghost sound = { λ u b. IsBuilt (seen_rules u.accepted.now.rules) u.catalog.now (seen_query b.query) (seen_tree b.tree) };
+
+    fn from_text(alloc: Global, under: &Under<'a>, text: &[u8]) -> Result<Built, TextError> {
         match tokens_of(alloc, text) {
             Ok(ts) => query_of(alloc, under, &ts),
             Err(error) => Err(error),

@@ -1,4 +1,4 @@
-ghost use Rattle.std.specs.Prelude.{◌≡◌, ◌≤◌, ℕ, List};
+ghost use Rattle.std.specs.Prelude.{◌≡◌, ◌≤◌, ℕ, List, IfOk};
 ghost use Rattle.prairie_top.specs.Stages.{IsReading, IsHad};
 ghost use Rattle.prairie_top.specs.declared.stage.Refusal.{Refusal as SeenRefusal};
 
@@ -20,8 +20,12 @@ pub trait FromText<C> {
     /// The bytes are refused for what they say.
     ghost refuses: { C → SeenRefusal → List ℕ → Type 0 };
 
+    /// What holds of a value that was read, also where it is not told what the bytes were.
+    ghost sound: { C → Self → Type 0 };
+
     fn from_text(alloc: Global, context: &C, text: &[u8]) -> Result<Self, TextError>
-        ensures { IsReading (reads context.now) (refuses context.now) text.now result };
+        ensures read { IsReading (reads context.now) (refuses context.now) text.now result }
+        ensures sound { IfOk result (sound context.now) };
 }
 
 /// The value of the text under a name, which may have so many bytes.
@@ -43,6 +47,7 @@ pub fn source<F: Shelf, C, T: FromText<C>>(
           after = F.faults shelf.new;
         })
         name.now limit result }
+    ensures sound { IfOk result (T.sound context.now) }
 {
     match shelf.fetch(alloc, name, limit) {
         Ok(bytes) => match T::from_text(alloc, context, bytes.as_slice()) {

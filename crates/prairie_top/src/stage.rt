@@ -37,7 +37,7 @@ pub enum Refusal {
     /// It is a query that sets a property, or uses a file, to which a value of another type is
     /// given, or one for the cost.
     WrongType { name: Symbol },
-    /// It is an accepted rule set, and is not of the form that is planned.
+    /// It is an accepted rule set with a T-rule. Such rule sets are not planned.
     Unbuilt,
 }
 

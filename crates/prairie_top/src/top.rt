@@ -1,25 +1,26 @@
 ghost use Rattle.std.specs.Prelude.{◌≡◌, ◌≢◌, ◌≤◌, [], IfOk};
 ghost use Rattle.prairie_top.specs.Outcome.{PlanComes, RulesComes, CatalogComes, Comes, PutsOnce, Ends};
+ghost use Rattle.descriptor_types.specs.Labels.{seen_tree};
 ghost use Rattle.property_classes.specs.Classes.{classes_of};
-ghost use Rattle.rule_syntax.specs.Seen.{seen_query};
+ghost use Rattle.query_tree.specs.Trees.{IsTree};
 ghost use Rattle.rule_syntax.specs.SeenRules.{seen_rules};
 ghost use Rattle.prairie_top.specs.SeenNames.{seen_names};
 ghost use Rattle.prairie_top.specs.Stages.{IsDecided, IsStopped};
 
 use crate::messages::{push_fault, push_refusal};
 use crate::names::Names;
-use crate::plan_text::push_plan;
-use crate::reading::Under;
-use crate::search::best_plan;
+use crate::reading::{Built, Under};
 use crate::source::{CATALOG_LIMIT, TEXT_LIMIT, source};
 use crate::stage::Stop;
 use crate::status::Status;
 use crate::words::plan_words;
 use catalog::Catalog;
+use descriptor_types::Tree;
+use plan_form::plan_text;
+use plan_search::best_plan;
 use pr_outside::{Name, PutError, Shelf, Sink};
 use pr_value::{Memory, Text};
 use property_classes::Classes;
-use rule_syntax::{QueryText, Rules};
 use rule_types::Accepted;
 use std::alloc::Global;
 
@@ -246,26 +247,24 @@ fn with_catalog<F: Shelf>(
           after = F.faults shelf.new;
         }) came text.new) }
 {
-    match source::<F, Under<'_>, QueryText>(alloc, shelf, names.query, TEXT_LIMIT, under) {
-        Ok(query) => decided(alloc, &under.accepted.rules, &query, text),
+    match source::<F, Under<'_>, Built>(alloc, shelf, names.query, TEXT_LIMIT, under) {
+        Ok(built) => decided(alloc, under, &built.tree, text),
         Err(stop) => stopped(alloc, b"query", names.query, stop, text),
     }
 }
 
-/// A best plan of the query, or that there is none.
-fn decided(
-    alloc: Global,
-    rules: &Rules,
-    query: &QueryText,
-    text: &mut Text,
-) -> Result<Status, Memory>
-    requires { text.old ≡ [] }
+/// A best plan of the tree, or that there is none.
+fn decided(alloc: Global, under: &Under<'_>, tree: &Tree, text: &mut Text) -> Result<Status, Memory>
+    requires empty { text.old ≡ [] }
+    requires tree { IsTree (seen_rules under.now.accepted.now.rules) under.now.catalog.now
+        (seen_tree tree.now) }
     ensures { IfOk result
-        (λ came. IsDecided (seen_rules rules.now) (seen_query query.now) came text.new) }
+        (λ came. IsDecided (seen_rules under.now.accepted.now.rules) under.now.catalog.now
+        (seen_tree tree.now) came text.new) }
 {
-    match best_plan(alloc, rules.irules.as_slice(), query)? {
+    match best_plan(alloc, under.accepted, under.classes, under.catalog, tree)? {
         Some(plan) => {
-            push_plan(alloc, rules.irules.as_slice(), &plan, text)?;
+            plan_text(alloc, under.accepted, &plan, text)?;
             Ok(Status::Done)
         }
         None => {

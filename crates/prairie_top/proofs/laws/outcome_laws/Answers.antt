@@ -1,4 +1,4 @@
-use Rattle.prairie_top.proofs.ExistsLaws.{one_exists}
+use Rattle.prairie_top.proofs.ExistsLaws.{one_cost, one_exists}
 use Rattle.prairie_top.proofs.LawLemmas.{one_answer, one_answer_text, complete, never_fails, never_unwritten}
 use Rattle.prairie_top.proofs.laws.outcome_laws.Goals as goal
 
@@ -19,3 +19,6 @@ returns-clause-written c = never_unwritten
 
 pub returns-clause-one_exists : goal.returns-clause-one_exists
 returns-clause-one_exists c = one_exists
+
+pub returns-clause-one_cost : goal.returns-clause-one_cost
+returns-clause-one_cost c = one_cost

@@ -1,9 +1,0 @@
-use Rattle.rule_syntax.specs.Seen.{seen_query}
-use Rattle.rule_syntax.specs.SeenRules.{seen_rules}
-use Rattle.prairie_top.specs.Reading.{query_grammar}
-use Rattle.prairie_top.proofs.ReadingLaws.{read_tokens}
-use Rattle.prairie_top.proofs.reading.QueryTextFromTextUnder.from_text.Goals as goal
-
-pub returns-in-Ok : goal.returns-in-Ok
-returns-in-Ok c =
-    read_tokens (query_grammar (seen_rules c.args.under.now.accepted.now.rules) c.args.under.now.catalog.now) seen_query c.args.text.now c.in-Ok.ts c.query_of.result c.in-Ok.ensures c.query_of.ensures
