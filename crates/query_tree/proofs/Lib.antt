@@ -1,8 +1,12 @@
 pub mod AcceptedFacts
+pub mod AfterLaws
+pub mod ApartLaws
 pub mod AskedLaws
+pub mod BareLaws
 pub mod BuildLaws
 pub mod CostLaws
 pub mod DescLaws
+pub mod DressedLaws
 pub mod FaultLaws
 pub mod FoundLaws
 pub mod MadeLaws

@@ -1,7 +1,12 @@
 pub mod Applied
 pub mod Built
+pub mod Dressed
+pub mod DressedLaws
+pub mod Equality
+pub mod EqualityLaws
 pub mod Faultless
 pub mod Found
+pub mod Goals
 pub mod Matches
 pub mod Query
 pub mod Refusals
@@ -9,5 +14,7 @@ pub mod Scopes
 pub mod SeenFound
 pub mod SeenParts
 pub mod Steps
+pub mod TreeLabelLaws
+pub mod TreeLabels
 pub mod Trees
 pub mod Views

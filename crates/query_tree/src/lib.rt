@@ -4,8 +4,11 @@
 mod building;
 mod conditions;
 mod descs;
+mod dressed;
+mod equality;
 mod files;
 mod i_steps;
+mod labels;
 mod literals;
 mod matching;
 mod operators;
@@ -17,7 +20,10 @@ mod t_steps;
 mod under;
 
 pub use building::build;
+pub use dressed::dressed_laws;
+pub use equality::equality_laws;
 pub use files::listed_desc;
 pub use i_steps::i_step;
+pub use labels::TreeLabel;
 pub use refusal::QueryRefusal;
 pub use t_steps::t_step;

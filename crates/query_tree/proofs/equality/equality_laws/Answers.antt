@@ -1,0 +1,32 @@
+use Rattle.std.proofs.Common.{◌≡◌, true, length, inl, inr, arith}
+use Rattle.std.specs.Prelude.{◌↔◌, ◌≤◌, ◌<◌, ◌+◌}
+use Rattle.derivation.proofs.AlikeLaws.{alike_joined}
+use Rattle.derivation.proofs.CountLaws.{count_is}
+use Rattle.derivation.proofs.FixedLaws.{fixed_alike}
+use Rattle.derivation.proofs.JoinedLaws.{closed_is_all}
+use Rattle.rule_syntax.specs.SeenRules.{seen_rules}
+use Rattle.query_tree.proofs.ApartLaws.{seen_trules-rooted, step-apart}
+use Rattle.query_tree.specs.Equality.{is_counted, is_enforcing}
+use Rattle.query_tree.specs.Steps.{step}
+use Rattle.query_tree.proofs.equality.equality_laws.Goals as goal
+
+pub returns-clause-quiet : goal.returns-clause-quiet
+returns-clause-quiet c q t u k quiet =
+    let s = step (seen_rules c.args.a.now.rules) c.args.catalog.now in
+    (λ e. closed_is_all s q quiet e.1, λ p. (k, p))
+
+pub returns-clause-alike : goal.returns-clause-alike
+returns-clause-alike c q t u k met alike = alike_joined (step (seen_rules c.args.a.now.rules) c.args.catalog.now) q t u met alike
+
+pub returns-clause-apart : goal.returns-clause-apart
+returns-clause-apart c q t u k p which =
+    let r = seen_rules c.args.a.now.rules in
+    let none = step-apart r c.args.catalog.now (seen_trules-rooted c.args.a.now.rules.trules) c.side_laws.ensures.sides in
+    let a = fixed_alike (step r c.args.catalog.now) q (λ l. is_enforcing r l ≡ true) none p in
+    elim which [ inl h ↦ a.0 h | inr h ↦ a.1 h ]
+
+pub returns-clause-count : goal.returns-clause-count
+returns-clause-count c q k n ts one =
+    let r = seen_rules c.args.a.now.rules in
+    let e = count_is (step r c.args.catalog.now) q (λ l. is_counted r l ≡ true) k ts (n + 1) one in
+    (λ full. let h = e.0 full in omega (arith, h), λ h. e.1 (omega (arith, h)))
