@@ -1,2 +1,3 @@
+pub mod FragileLaws
 pub mod InputLaws
 pub mod ToyLaws

@@ -1,3 +1,4 @@
+pub mod Fragile
 pub mod Laws
 pub mod Listed
 pub mod Toy

@@ -2,11 +2,13 @@
 //! tables of moves that are data, and steps with one rule.
 #![tactic(auto)]
 
+mod fragile;
 mod listed;
 mod search;
 mod toy;
 mod ways;
 
+pub use fragile::{Breaking, Fragile};
 pub use listed::Listed;
 pub use search::Search;
 pub use toy::{Toy, term, toy_log};

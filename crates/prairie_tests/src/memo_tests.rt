@@ -1,3 +1,4 @@
+use crate::fragile::{Breaking, Fragile};
 use crate::toy::{Toy, term, toy_log};
 use derivation::{Log, PushError, Reason, Terms};
 use memo::{Counts, Memo, MemoError};
@@ -99,5 +100,144 @@ fn a_memo_after_want_of_memory_is_spoilt(rt: HostRuntime) {
     assert!(rt;
         memo.equate(alloc, 1, 1) == Err(MemoError::Spoilt),
         "equate"
+    );
+}
+
+/// The log of a hundred towers over `1(0)`, each of a hundred nodes with a label of its own.
+fn wide_log(alloc: Global) -> Result<Log<u64, Toy>, Memory> {
+    let mut terms = Terms::new(alloc);
+    let leaf = term(alloc, &mut terms, 0, &[]);
+    let one = term(alloc, &mut terms, 1, &[leaf]);
+    let mut tops = Vec::new(alloc);
+    for label in 1_000..1_100 {
+        let mut top = one;
+        for _ in 0..100 {
+            top = term(alloc, &mut terms, label, &[top]);
+        }
+        tops.push(top)?;
+    }
+    let query = term(alloc, &mut terms, 3, tops.as_slice());
+    if query >= terms.count() {
+        return Err(Memory);
+    }
+    Log::new(alloc, terms, Toy, query)
+}
+
+/// The line of a tower and the one over `2(0)` in its place.
+fn turned(alloc: Global, memo: &mut Memo<u64, Toy>, tower: usize) -> Result<usize, Memory> {
+    let mut lines = Vec::new(alloc);
+    let mut at = pushed(alloc, memo, Reason::Part { of: 0, at: tower });
+    for _ in 0..100 {
+        lines.push(at)?;
+        at = pushed(alloc, memo, Reason::Part { of: at, at: 0 });
+    }
+    let mut line = pushed(alloc, memo, Reason::Rule { of: at, rule: 0 });
+    for of in lines.iter().rev() {
+        let inside = Reason::Inside {
+            of: *of,
+            at: 0,
+            by: line,
+        };
+        line = pushed(alloc, memo, inside);
+    }
+    Ok(line)
+}
+
+/// The line of the query and what it is with every tower turned.
+fn all_turned(alloc: Global, memo: &mut Memo<u64, Toy>) -> Result<usize, Memory> {
+    let mut line = 0;
+    for tower in 0..100 {
+        let by = turned(alloc, memo, tower)?;
+        let inside = Reason::Inside {
+            of: line,
+            at: tower,
+            by,
+        };
+        line = pushed(alloc, memo, inside);
+    }
+    Ok(line)
+}
+
+#[test]
+fn a_term_of_ten_thousand_nodes_is_learnt(rt: HostRuntime) {
+    let alloc = rt.alloc();
+    let log = wide_log(alloc).expect(&rt, "memory");
+    let mut memo = Memo::new(alloc, log).expect(&rt, "memory");
+    let line = all_turned(alloc, &mut memo).expect(&rt, "memory");
+    let mut bottom = 0;
+    for _ in 0..101 {
+        bottom = pushed(alloc, &mut memo, Reason::Part { of: bottom, at: 0 });
+    }
+    let rule = pushed(
+        alloc,
+        &mut memo,
+        Reason::Rule {
+            of: bottom,
+            rule: 0,
+        },
+    );
+    let two = memo.add(alloc, 2, &[0], rule).expect(&rt, "add");
+    memo.join(alloc, 1, two, rule).expect(&rt, "join");
+    memo.settle(alloc).expect(&rt, "settle");
+    assert!(rt;
+        memo.counts() == counts(10_003, 10_004),
+        "one class for both"
+    );
+    assert!(rt; line < memo.log().count(), "the turned query");
+    let ends = (memo.log().line(line).left, memo.log().line(line).right);
+    assert!(rt; ends.0 != ends.1, "two terms");
+    let found = memo.equate(alloc, ends.0, ends.1).expect(&rt, "equate");
+    assert!(rt; found < memo.log().count(), "a line");
+    assert!(rt;
+        memo.log().line(found).depth == 1,
+        "no deeper than the rule"
+    );
+    assert!(rt; memo.counts() == counts(10_003, 10_004), "no class more");
+}
+
+/// The log of `3(1(0))` over labels of which some have no copy.
+fn fragile_log(alloc: Global) -> Result<Log<Fragile, Breaking>, Memory> {
+    let mut terms = Terms::new(alloc);
+    let leaf = terms.add(alloc, Fragile { value: 0 }, &[])?;
+    if leaf >= terms.count() {
+        return Err(Memory);
+    }
+    let one = terms.add(alloc, Fragile { value: 1 }, &[leaf])?;
+    if one >= terms.count() {
+        return Err(Memory);
+    }
+    let query = terms.add(alloc, Fragile { value: 3 }, &[one])?;
+    Log::new(alloc, terms, Breaking, query)
+}
+
+#[test]
+fn a_label_without_a_copy_spoils_the_memo(rt: HostRuntime) {
+    let alloc = rt.alloc();
+    let log = fragile_log(alloc).expect(&rt, "memory");
+    let mut memo = Memo::new(alloc, log).expect(&rt, "memory");
+    let part = memo
+        .push(alloc, Reason::Part { of: 0, at: 0 })
+        .expect(&rt, "part");
+    let rule = memo
+        .push(alloc, Reason::Rule { of: part, rule: 0 })
+        .expect(&rt, "rule");
+    let count = memo.log().count();
+    let added = memo.add(alloc, Fragile { value: 100 }, &[0], rule);
+    assert!(rt; added == Err(MemoError::Memory), "no copy of the label");
+    assert!(rt; memo.settle(alloc) == Err(MemoError::Spoilt), "settle");
+    assert!(rt;
+        memo.join(alloc, 1, 2, rule) == Err(MemoError::Spoilt),
+        "join"
+    );
+    let again = memo.add(alloc, Fragile { value: 5 }, &[0], rule);
+    assert!(rt; again == Err(MemoError::Spoilt), "add");
+    assert!(rt;
+        memo.equate(alloc, 1, 1) == Err(MemoError::Spoilt),
+        "equate"
+    );
+    assert!(rt; memo.log().count() == count, "the log has its count");
+    assert!(rt;
+        memo.push(alloc, Reason::Turn { of: rule }).is_ok(),
+        "and goes on"
     );
 }
