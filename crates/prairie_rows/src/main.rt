@@ -10,6 +10,7 @@ mod report;
 mod roles;
 mod runs;
 mod steps;
+mod terms;
 mod texts;
 mod tokens;
 mod trees;

@@ -9,17 +9,19 @@ use crate::listed::plan_of;
 use crate::members::{items, said, said_string, string};
 use crate::prints::rules_of;
 use crate::report::Report;
+use crate::terms::push_terms;
 use crate::texts::{Texts, text_of};
-use crate::trees::{push_form, push_tree, push_values};
+use crate::trees::{push_digits, push_form, push_tree, push_values};
 use crate::trouble::Trouble;
 use crate::values::catalog_of;
 use action_eval::IStep;
 use catalog::Catalog;
+use derivation::Terms;
 use descriptor_types::Tree;
 use plan_form::implements;
 use pr_value::Text;
 use property_classes::Classes;
-use query_tree::{QueryRefusal, build, i_step, t_step};
+use query_tree::{QueryRefusal, add_tree, build, i_step, t_step};
 use rule_lex::{LexError, tokens};
 use rule_syntax::{QueryText, SyntaxError, read_query};
 use rule_types::{AcceptError, Accepted, accept};
@@ -115,7 +117,7 @@ fn came_of(
 }
 
 /// The tree, or what the row's T-rule makes of it, or what its I-rule asks and costs there, or
-/// whether its plan implements it.
+/// whether its plan implements it, or its terms.
 fn told(alloc: Global, under: &Under<'_>, row: &Json, tree: &Tree) -> Result<Text, Trouble>
     requires classes { under.now.classes.now ≡ classes_of (seen_rules under.now.accepted.now.rules) }
     requires tree { IsTree (seen_rules under.now.accepted.now.rules) under.now.catalog.now
@@ -128,6 +130,8 @@ fn told(alloc: Global, under: &Under<'_>, row: &Json, tree: &Tree) -> Result<Tex
         tell_implemented(alloc, under, string(json, "irule")?, tree, &mut out)?;
     } else if let Some(json) = row.get("plan") {
         tell_plan(alloc, under, json, tree, &mut out)?;
+    } else if row.get("terms").is_some() {
+        tell_terms(alloc, under, tree, &mut out)?;
     } else {
         push_tree(alloc, &under.accepted.rules, tree, 0, &mut out)?;
     }
@@ -205,6 +209,29 @@ fn tell_plan(
     } else {
         out.push_bytes(b"does not implement\n")?;
     }
+    Ok(())
+}
+
+/// The terms of the tree, added twice, and the numbers that then stand for it.
+fn tell_terms(alloc: Global, under: &Under<'_>, tree: &Tree, out: &mut Text) -> Result<(), Trouble>
+    requires classes { under.now.classes.now ≡ classes_of (seen_rules under.now.accepted.now.rules) }
+    requires tree { IsTree (seen_rules under.now.accepted.now.rules) under.now.catalog.now
+        (seen_tree tree.now) }
+{
+    let Under {
+        accepted,
+        classes,
+        ..
+    } = *under;
+    let mut terms = Terms::new(alloc);
+    let first = add_tree(alloc, accepted, classes, tree, &mut terms)?;
+    let again = add_tree(alloc, accepted, classes, tree, &mut terms)?;
+    push_terms(alloc, &accepted.rules, &terms, out)?;
+    out.push_bytes(b"stands ")?;
+    push_digits(alloc, first as u64, out)?;
+    out.push_bytes(b" and ")?;
+    push_digits(alloc, again as u64, out)?;
+    out.push_bytes(b"\n")?;
     Ok(())
 }
 

@@ -117,7 +117,8 @@ pub fn push_form(alloc: Global, form: &CostForm, out: &mut Text) -> Result<(), T
     Ok(())
 }
 
-fn push_digits(alloc: Global, number: u64, out: &mut Text) -> Result<(), Trouble> {
+/// The digits of a number.
+pub fn push_digits(alloc: Global, number: u64, out: &mut Text) -> Result<(), Trouble> {
     let digits = number.to_string(alloc)?;
     out.push_bytes(digits.as_bytes())?;
     Ok(())

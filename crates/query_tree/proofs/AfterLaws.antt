@@ -1,6 +1,6 @@
 -- What stands in the environment of a T-rule after its statements, and that what it makes of a tree of the rules is one.
-use Rattle.std.proofs.Common.{◌≡◌, ℕ, zero, suc, ◌+◌, Bool, true, false, cond, List, [], ◌∷◌, ◌++◌, length, map, Option, Some, None, option_map, refl, ap, sym, ◌∙◌, subst, arith, length-append}
-use Rattle.std.specs.Prelude.{◌&&◌, option_and_then, slice_get, zip}
+use Rattle.std.proofs.Common.{◌≡◌, ℕ, zero, suc, Bool, true, false, cond, List, [], ◌∷◌, ◌++◌, length, map, Option, Some, None, option_map, refl, ap, sym, ◌∙◌, subst, arith, length-append}
+use Rattle.std.specs.Prelude.{slice_get, zip}
 use Rattle.std.specs.Cmp.{first_so, second_so}
 use Rattle.std.specs.Cmp.Derive.{both_true}
 use Rattle.std.specs.List.{Contains, list_all}
@@ -18,7 +18,7 @@ use Rattle.rule_syntax.specs.Descs.{left_descs, lefts_descs, right_descs, trule_
 use Rattle.rule_syntax.specs.Seen.{seen_trule}
 use Rattle.rule_syntax.specs.declared.parts.TRule as trule
 use Rattle.rule_syntax.specs.Syntax.{Body, Stmt, set, copy, LeftLabel, TRule, Rules}
-use Rattle.rule_syntax.specs.Typing.{Context, is_type, is_typed_stmt, signatures_of, type_of}
+use Rattle.rule_syntax.specs.Typing.{Context, is_typed_stmt, signatures_of}
 use Rattle.rule_types.specs.Conditions.{is_typed_body, refused_by}
 use Rattle.rule_types.specs.Uses.{streams, streams_of}
 use Rattle.query_tree.proofs.AcceptedFacts.{IsTRule, accepted-operators, trule_facts}
@@ -34,7 +34,7 @@ use Rattle.query_tree.specs.Applied.{IsReady}
 use Rattle.query_tree.specs.Found.{Found, Tells, nothing}
 use Rattle.query_tree.specs.Matches.{Matched, matched, all_matched, and_match, is_named, with_node}
 use Rattle.query_tree.specs.Scopes.{Scope, env_over, tested, trule_scope}
-use Rattle.query_tree.specs.Steps.{made, step, trule_run}
+use Rattle.query_tree.specs.Steps.{step, trule_run}
 use Rattle.query_tree.specs.Trees.{IsTree}
 
 -- ---- statements

@@ -1,6 +1,6 @@
 -- No T-rule of an accepted rule set takes or makes a tree with an enforcer at its root.
 use Rattle.std.proofs.Common.{◌≡◌, ℕ, zero, suc, Bool, true, false, not, cond, List, [], ◌∷◌, map, Option, Some, None, option_map, refl, ap, sym, ◌∙◌, subst}
-use Rattle.std.specs.Prelude.{◌&&◌, ◌||◌, option_and_then, slice_get, zip}
+use Rattle.std.specs.Prelude.{◌&&◌, option_and_then, slice_get, zip}
 use Rattle.std.specs.Cmp.{first_so, second_so}
 use Rattle.std.specs.List.{list_all}
 use Rattle.std.specs.Str.{bytes_eq}
@@ -10,19 +10,16 @@ use Rattle.action_eval.proofs.TypeLaws.{some-same}
 use Rattle.action_eval.specs.Environments.{Env}
 use Rattle.catalog.specs.Contents.{Catalog}
 use Rattle.derivation.specs.Laws.{NoRuleTouches}
-use Rattle.descriptor_types.specs.Descriptors.{Desc}
 use Rattle.descriptor_types.specs.Labels.{Label, file, operator}
 use Rattle.pr_value.proofs.Shelf.{bytes_eq-same, option_and_then-some, option_map-some}
 use Rattle.pr_value.specs.Symbols.{Symbol}
-use Rattle.pr_value.specs.Trees.{Tree, Trees, node, tree, label, trees_of}
+use Rattle.pr_value.specs.Trees.{Tree, Trees, node, label, trees_of}
 use Rattle.rule_syntax.specs.Roles.{is_enforcer}
-use Rattle.rule_syntax.specs.Seen.{seen_left, seen_left_in, left_level, left_input_level, seen_right, seen_right_in, right_level, right_input_level, seen_trule}
+use Rattle.rule_syntax.specs.Seen.{seen_left_in, left_level, left_input_level, seen_right_in, right_level, right_input_level, seen_trule}
 use Rattle.rule_syntax.specs.Syntax.{LeftLabel, RightLabel, Operator, TRule, Rules}
 use Rattle.rule_syntax.specs.declared.parts.TRule as trule
-use Rattle.rule_syntax.specs.declared.sides.Left as left
 use Rattle.rule_syntax.specs.declared.sides.Left.{out-Left}
 use Rattle.rule_syntax.specs.declared.sides.LeftIn.TheFolds.{fold_out-Left}
-use Rattle.rule_syntax.specs.declared.sides.Right as right
 use Rattle.rule_syntax.specs.declared.sides.Right.{out-Right}
 use Rattle.rule_syntax.specs.declared.sides.RightIn.TheFolds.{fold_out-Right}
 use Rattle.rule_types.specs.AcceptedLaws.{HasSoundSides, is_sound_trule}

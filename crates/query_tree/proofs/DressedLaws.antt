@@ -1,6 +1,6 @@
 -- Trees are joined exactly where they are joined with their views.
 use Rattle.std.proofs.Common.{◌≡◌, ℕ, zero, suc, Bool, true, false, cond, List, [], ◌∷◌, ◌++◌, length, map, Option, Some, None, option_map, refl, ap, sym, ◌∙◌, subst}
-use Rattle.std.specs.Prelude.{◌↔◌, ◌==◌, option_and_then, slice_get, slice_set, zip}
+use Rattle.std.specs.Prelude.{◌==◌, option_and_then, slice_get, slice_set, zip}
 use Rattle.std.specs.Cmp.Derive.{both_true}
 use Rattle.std.specs.List.{list_all, AllByRecursion as Every}
 use Rattle.action_eval.proofs.TypeLaws.{some-same}
@@ -9,10 +9,10 @@ use Rattle.action_eval.specs.Meaning.{desc_in}
 use Rattle.catalog.specs.Contents.{Catalog}
 use Rattle.derivation.proofs.MapLaws.{joined_map}
 use Rattle.derivation.specs.Joined.{Joined, query, part, rule, turn, chain, inside}
-use Rattle.descriptor_types.specs.Descriptors.{Desc, fits}
+use Rattle.descriptor_types.specs.Descriptors.{fits}
 use Rattle.descriptor_types.specs.Labels.{Label, file, operator, desc_of}
 use Rattle.pr_value.proofs.Shelf.{option_map-some, option_and_then-some}
-use Rattle.pr_value.specs.Trees.{Tree, node, Trees, nil, cons, tree, label, input, with_input, list_of, trees_of, map_tree, map_trees}
+use Rattle.pr_value.specs.Trees.{Tree, node, Trees, nil, cons, tree, input, with_input, list_of, trees_of, map_tree, map_trees}
 use Rattle.rule_syntax.specs.Syntax.{LeftLabel, RightLabel, Operator, TRule, Rules}
 use Rattle.rule_types.specs.Uses.{streams}
 use Rattle.query_tree.proofs.FoundLaws.{desc-IsTree, every-fits, matched-AreOf}

@@ -1,4 +1,5 @@
 pub mod AcceptedFacts
+pub mod AddLaws
 pub mod AfterLaws
 pub mod ApartLaws
 pub mod AskedLaws
@@ -7,6 +8,8 @@ pub mod BuildLaws
 pub mod CostLaws
 pub mod DescLaws
 pub mod DressedLaws
+pub mod EnforcerLaws
+mod EqualityRows
 pub mod FaultLaws
 pub mod FoundLaws
 pub mod MadeLaws

@@ -1,5 +1,5 @@
 -- Trees of labels that hold their views, and the same steps on them.
-use Rattle.std.specs.Prelude.{ℕ, suc, ◌==◌, Bool, ◌&&◌, List, [], ◌∷◌, ◌++◌, zip, Option, Some, None, option_map, option_and_then, slice_get, if◌then◌else◌}
+use Rattle.std.specs.Prelude.{ℕ, ◌==◌, Bool, ◌&&◌, List, [], ◌∷◌, ◌++◌, zip, Option, None, option_map, option_and_then, slice_get, if◌then◌else◌}
 use Rattle.std.specs.List.{list_all}
 use Rattle.pr_value.specs.Trees.{Tree, node, Trees, nil, cons, tree, map_tree}
 use Rattle.catalog.specs.Contents.{Catalog}

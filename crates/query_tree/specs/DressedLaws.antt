@@ -1,5 +1,5 @@
 -- Laws of trees of labels that hold their views.
-use Rattle.std.specs.Prelude.{◌≡◌, ◌↔◌, ℕ, Some, Option, option_map}
+use Rattle.std.specs.Prelude.{◌≡◌, ◌↔◌, ℕ, Some, option_map}
 use Rattle.pr_value.specs.Trees.{Tree}
 use Rattle.catalog.specs.Contents.{Catalog}
 use Rattle.derivation.specs.Joined as derivation
@@ -23,10 +23,12 @@ module _ (r : Rules) (c : Catalog) where
   -- on a tree of the rules that is dressed, a step is the dressed one
   abbrev pub StepsAreDressed : Type 0
   StepsAreDressed =
-      (n : ℕ) (t : Tree Label) → IsTree r c t → dressed_step r c n (dressed r t) ≡ option_map (dressed r) (step r c n t)
+      (n : ℕ) (t : Tree Label) → IsTree r c t
+      → dressed_step r c n (dressed r t) ≡ option_map (dressed r) (step r c n t)
 
   -- trees are joined exactly where they are joined dressed
   abbrev pub DressedAreJoined : Type 0
   DressedAreJoined =
       (q t u : Tree Label) (k : ℕ) → IsTree r c q
-      → Joined r c q k t u ↔ derivation.Joined (dressed_step r c) (dressed r q) k (dressed r t) (dressed r u)
+      → Joined r c q k t u
+      ↔ derivation.Joined (dressed_step r c) (dressed r q) k (dressed r t) (dressed r u)

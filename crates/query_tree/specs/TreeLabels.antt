@@ -1,5 +1,5 @@
 -- Labels of operator trees that hold their views, and whether they are enforcers'.
-use Rattle.std.specs.Prelude.{ℕ, Bool, true, false, ◌&&◌, ◌==◌, ◌++◌}
+use Rattle.std.specs.Prelude.{Bool, false, ◌&&◌, ◌==◌, ◌++◌}
 use Rattle.std.specs.Hash.{HashWrites, bool, u8, usize}
 use Rattle.std.specs.Str.{bytes_eq}
 use Rattle.descriptor_types.specs.Descriptors.{Desc, only, same_desc, hashed_desc}

@@ -1,10 +1,12 @@
 //! The operator trees of queries, and what rules make of trees, ask of them and cost there.
 #![tactic(auto)]
 
+mod adding;
 mod building;
 mod conditions;
 mod descs;
 mod dressed;
+mod dressing;
 mod equality;
 mod files;
 mod i_steps;
@@ -19,6 +21,7 @@ mod scopes;
 mod t_steps;
 mod under;
 
+pub use adding::add_tree;
 pub use building::build;
 pub use dressed::dressed_laws;
 pub use equality::equality_laws;

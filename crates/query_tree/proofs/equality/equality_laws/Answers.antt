@@ -1,5 +1,5 @@
-use Rattle.std.proofs.Common.{◌≡◌, true, length, inl, inr, arith}
-use Rattle.std.specs.Prelude.{◌↔◌, ◌≤◌, ◌<◌, ◌+◌}
+use Rattle.std.proofs.Common.{◌≡◌, true, inl, inr, arith}
+use Rattle.std.specs.Prelude.{◌+◌}
 use Rattle.derivation.proofs.AlikeLaws.{alike_joined}
 use Rattle.derivation.proofs.CountLaws.{count_is}
 use Rattle.derivation.proofs.FixedLaws.{fixed_alike}

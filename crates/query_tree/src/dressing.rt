@@ -1,0 +1,78 @@
+// Labels with their views.
+ghost use Rattle.std.specs.Prelude.{◌≡◌, None, map, IfOk};
+ghost use Rattle.descriptor_types.specs.Labels.{file, operator};
+ghost use Rattle.enforcer_find.specs.Enforcers.{has_null};
+ghost use Rattle.property_classes.specs.Classes.{classes_of};
+ghost use Rattle.query_tree.specs.Equality as spec;
+ghost use Rattle.query_tree.specs.TreeLabels.{dressed_label};
+ghost use Rattle.rule_syntax.specs.Roles.{is_enforcer};
+ghost use Rattle.rule_syntax.specs.Seen.{seen_irule};
+ghost use Rattle.rule_syntax.specs.SeenRules.{seen_rules};
+ghost use Rattle.rule_types.specs.Conditions.{refused_by};
+
+use crate::labels::TreeLabel;
+use descriptor_types::{Desc, Layout};
+use enforcer_find::Enforcers;
+use pr_value::{Memory, Symbol};
+use property_classes::Classes;
+use rule_syntax::Rules;
+use std::alloc::Global;
+
+/// Accepted rules, with the layout and the classes of their properties, and their enforcers.
+#[derive(Clone, Copy)]
+pub(crate) struct Dressing<'a> {
+    pub rules: &'a Rules,
+    pub layout: &'a Layout,
+    pub classes: &'a Classes,
+    pub enforcers: &'a Enforcers,
+    pub ghost accepted: { refused_by (seen_rules rules.now) ≡ None },
+    pub ghost laid_out: { layout.now ≡ rules.now.properties },
+    pub ghost classed: { classes.now ≡ classes_of (seen_rules rules.now) },
+    pub ghost found: { map has_null enforcers.now
+        ≡ map (λ o. is_enforcer (map seen_irule rules.now.irules) o.name) rules.now.operators },
+}
+
+/// Whether the operator of that number is an enforcer.
+fn enforces(dressing: &Dressing, op: usize) -> bool
+    ensures { result ≡ spec.enforces (seen_rules dressing.now.rules.now) op }
+{
+    if op < dressing.rules.operators.len() {
+        dressing.enforcers.is_enforcer(op)
+    } else {
+        false
+    }
+}
+
+/// The label of a file.
+pub(crate) fn file_label(
+    alloc: Global,
+    dressing: &Dressing,
+    name: Symbol,
+    desc: Desc,
+) -> Result<TreeLabel, Memory>
+    ensures { IfOk result
+        (λ l. l ≡ dressed_label (seen_rules dressing.now.rules.now) (file name desc)) }
+{
+    let view = desc.view(alloc, dressing.layout, dressing.classes.seen())?;
+    Ok(TreeLabel::File { name, desc, view })
+}
+
+/// The label of an operator.
+pub(crate) fn node_label(
+    alloc: Global,
+    dressing: &Dressing,
+    op: usize,
+    desc: Desc,
+) -> Result<TreeLabel, Memory>
+    ensures { IfOk result
+        (λ l. l ≡ dressed_label (seen_rules dressing.now.rules.now) (operator op desc)) }
+{
+    let view = desc.view(alloc, dressing.layout, dressing.classes.seen())?;
+    let enforcer = enforces(dressing, op);
+    Ok(TreeLabel::Node {
+        op,
+        desc,
+        view,
+        enforcer,
+    })
+}
