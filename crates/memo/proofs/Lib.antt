@@ -17,3 +17,4 @@ pub mod AddLaws
 pub mod StartLaws
 pub mod CountLaws
 pub mod ViewLaws
+pub mod MemberLaws

@@ -13,3 +13,4 @@ pub mod Settle
 pub mod Adding
 pub mod Start
 pub mod Counts
+pub mod Members

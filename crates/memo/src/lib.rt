@@ -8,6 +8,7 @@ mod homes;
 mod index;
 mod learn;
 mod lines;
+mod members;
 mod memo;
 mod merge;
 mod reach;

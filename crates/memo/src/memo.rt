@@ -3,8 +3,8 @@ ghost use Rattle.derivation.specs.Log.{LogValue, Pushes, JustifiesNone};
 ghost use Rattle.memo.specs.Memos.{MemoValue, IsViewOf, ClassesAreEquated, HasProvedLines, Adds, Notes, Settles, spoilt_by};
 ghost use Rattle.memo.specs.Grew.{Begins, Grew};
 ghost use Rattle.memo.specs.Forest.{HasLine};
-ghost use Rattle.memo.specs.Kept.{IsMemo};
 ghost use Rattle.memo.specs.Counts.{classes_from, lives};
+ghost use Rattle.memo.specs.Members.{exprs_of};
 ghost use Rattle.memo.specs.Start.{IsFresh};
 ghost use Rattle.memo.specs.declared.expr.Expr.{Expr};
 
@@ -13,6 +13,7 @@ use crate::counts::{Counts, count_all};
 use crate::expr::{Expr, Join, Known};
 use crate::homes::expr_get;
 use crate::learn::equate_in;
+use crate::members::{Members, extend, group_all, members_get, regroup};
 use crate::settle::settle_in;
 use crate::start::start;
 use derivation::{Label, Log, PushError, Reason, Steps, Term};
@@ -35,19 +36,20 @@ pub struct Memo<L: Label, S: Steps<L>> {
     index: IndexMap<Term<L>, usize>,
     known: Vec<Option<Known>>,
     joins: Vec<Join>,
+    members: Vec<Members>,
     spoilt: bool,
 }
 
 impl<L: Label, S: Steps<L>> Model for Memo<L, S> {
     ghost use Rattle.std.specs.Prelude.{◌≡◌, false};
     ghost use Rattle.memo.specs.Memos.{MemoValue};
-    ghost use Rattle.memo.specs.Kept.{IsMemo};
+    ghost use Rattle.memo.specs.Members.{IsGrouped};
 
     ghost Value = { MemoValue L S };
 
     ghost view = { λ m. record { log = m.log; exprs = m.exprs.items; joins = m.joins.items; spoilt = m.spoilt } };
 
-    ghost invariant = { λ m. m.spoilt ≡ false → IsMemo m.log.terms m.log.lines m.exprs.items m.known.items m.index.entries m.joins.items };
+    ghost invariant = { λ m. m.spoilt ≡ false → IsGrouped m.log.terms m.log.lines m.exprs.items m.known.items m.index.entries m.joins.items m.members.items };
 }
 
 /// Marks a memo that ran out of memory.
@@ -73,12 +75,14 @@ impl<L: Label + Drop, S: Steps<L>> Memo<L, S> {
         let mut index = IndexMap::new(alloc);
         let mut known = Vec::new(alloc);
         start(alloc, &mut log, &mut exprs, &mut index, &mut known)?;
+        let members = group_all(alloc, exprs.as_slice())?;
         Ok(Memo {
             log,
             exprs,
             index,
             known,
             joins: Vec::new(alloc),
+            members,
             spoilt: false,
         })
     }
@@ -130,6 +134,16 @@ impl<L: Label + Drop, S: Steps<L>> Memo<L, S> {
         ensures { (e : Expr L) × (slice_get self.now.exprs class ≡ Some e) × (result ≡ e.class) }
     {
         expr_get(self.exprs.as_slice(), class).class
+    }
+
+    /// The expressions of a class that are there, in ascending order.
+    pub fn class_exprs(&self, class: usize) -> &[usize]
+        requires sound { self.now.spoilt ≡ false }
+        requires there { class < length self.now.exprs }
+        ensures { (e : Expr L) × (slice_get self.now.exprs class ≡ Some e) × (result.now ≡ exprs_of e.class 0 self.now.exprs) }
+    {
+        let e = expr_get(self.exprs.as_slice(), class);
+        members_get(self.members.as_slice(), e.class)
     }
 
     /// The `push` of the log.
@@ -187,7 +201,10 @@ impl<L: Label + Drop, S: Steps<L>> Memo<L, S> {
             line,
         );
         match added {
-            Ok(class) => Ok(class),
+            Ok(class) => match extend(alloc, self.exprs.as_slice(), &mut self.members) {
+                Ok(()) => Ok(class),
+                Err(_) => Err(spoil(&mut self.spoilt)),
+            },
             Err(_) => Err(spoil(&mut self.spoilt)),
         }
     }
@@ -239,7 +256,10 @@ impl<L: Label + Drop, S: Steps<L>> Memo<L, S> {
             &mut self.joins,
         );
         match settled {
-            Ok(()) => Ok(()),
+            Ok(()) => match regroup(alloc, self.exprs.as_slice(), &mut self.members) {
+                Ok(()) => Ok(()),
+                Err(_) => Err(spoil(&mut self.spoilt)),
+            },
             Err(_) => Err(spoil(&mut self.spoilt)),
         }
     }

@@ -1,3 +1,4 @@
 pub mod FragileLaws
 pub mod InputLaws
 pub mod ToyLaws
+pub mod AgainLaws

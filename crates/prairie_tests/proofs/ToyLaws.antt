@@ -1,13 +1,13 @@
 -- What the toy rule gives at the number of a term.
-use Rattle.std.proofs.Common.{◌≡◌, ℕ, zero, suc, ◌<◌, Bool, true, false, cond, List, length, take, Option, Some, None, slice_get, refl, ap, sym, ◌∙◌, subst, arith}
-use Rattle.std.specs.Prelude.{◌≢◌, ◌==◌, All}
+use Rattle.std.proofs.Common.{◌≡◌, ℕ, zero, suc, ◌<◌, Bool, true, false, cond, List, length, take, Some, None, slice_get, refl, ap, sym, ◌∙◌, subst}
+use Rattle.std.specs.Prelude.{◌≢◌, ◌==◌}
 use Rattle.std.proofs.lemmas.Bool.Decides.{Decides-eqb}
 use Rattle.pr_value.specs.Trees.{Tree, node}
 use Rattle.derivation.specs.declared.terms.Term.{Term}
 use Rattle.derivation.specs.Table.{term, AreEarlier}
 use Rattle.derivation.specs.Stands.{Stands, StandAll}
 use Rattle.derivation.specs.Terms.{NoStep, GivesStep}
-use Rattle.derivation.proofs.StandsLaws.{stands_for, stands_still, keeps_of_take, stand_still}
+use Rattle.derivation.proofs.StandsLaws.{stands_for, keeps_of_take, stand_still}
 use Rattle.prairie_tests.specs.Toy.{toy_step}
 
 pub some_is : {A : Type 0} (a b : A) → Some a ≡ Some b → a ≡ b

@@ -2,12 +2,14 @@
 //! tables of moves that are data, and steps with one rule.
 #![tactic(auto)]
 
+mod again;
 mod fragile;
 mod listed;
 mod search;
 mod toy;
 mod ways;
 
+pub use again::{begins, has_exprs, log_again};
 pub use fragile::{Breaking, Fragile};
 pub use listed::Listed;
 pub use search::Search;

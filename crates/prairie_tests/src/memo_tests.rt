@@ -1,3 +1,6 @@
+ghost use Rattle.std.specs.Prelude.{◌≡◌};
+
+use crate::again::{begins, has_exprs, log_again};
 use crate::fragile::{Breaking, Fragile};
 use crate::toy::{Toy, term, toy_log};
 use derivation::{Log, PushError, Reason, Terms};
@@ -6,7 +9,9 @@ use pr_value::Memory;
 use std::alloc::Global;
 
 /// The number of the line that a reason adds, or 99.
-fn pushed(alloc: Global, memo: &mut Memo<u64, Toy>, why: Reason) -> usize {
+fn pushed(alloc: Global, memo: &mut Memo<u64, Toy>, why: Reason) -> usize
+    ensures { memo.new.spoilt ≡ memo.old.spoilt }
+{
     match memo.push(alloc, why) {
         Ok(i) => i,
         Err(_) => 99,
@@ -26,15 +31,36 @@ fn a_memo_merges_what_a_rule_equates(rt: HostRuntime) {
     let log = toy_log(alloc).expect(&rt, "memory");
     let mut memo = Memo::new(alloc, log).expect(&rt, "memory");
     assert!(rt; memo.counts() == counts(4, 4), "a class for each node");
+    assert!(rt; has_exprs(&memo, 1, &[1]), "one expression");
+    assert!(rt; has_exprs(&memo, 2, &[2]), "and one");
     let part = pushed(alloc, &mut memo, Reason::Part { of: 0, at: 0 });
     let rule = pushed(alloc, &mut memo, Reason::Rule { of: part, rule: 0 });
     memo.join(alloc, 1, 2, rule).expect(&rt, "join");
     memo.settle(alloc).expect(&rt, "settle");
     assert!(rt; memo.counts() == counts(3, 4), "one class fewer");
+    assert!(rt; has_exprs(&memo, 1, &[1, 2]), "both");
+    assert!(rt; has_exprs(&memo, 2, &[1, 2]), "by the other number");
     let count = memo.log().count();
     let bad = memo.push(alloc, Reason::Turn { of: 99 });
     assert!(rt; bad == Err(PushError::BadReason), "no such line");
     assert!(rt; memo.log().count() == count, "the log has its count");
+}
+
+#[test]
+fn a_memo_equates_on_a_log_that_begins_with_its_own(rt: HostRuntime) {
+    let alloc = rt.alloc();
+    let log = toy_log(alloc).expect(&rt, "memory");
+    let mut memo = Memo::new(alloc, log).expect(&rt, "memory");
+    let part = pushed(alloc, &mut memo, Reason::Part { of: 0, at: 0 });
+    let rule = pushed(alloc, &mut memo, Reason::Rule { of: part, rule: 0 });
+    memo.join(alloc, 1, 2, rule).expect(&rt, "join");
+    memo.settle(alloc).expect(&rt, "settle");
+    let mut log = log_again(alloc, memo.log()).expect(&rt, "memory");
+    assert!(rt; begins(memo.log(), &log), "the memo's log, made again");
+    let line = memo.equate_on(alloc, &mut log, 1, 2).expect(&rt, "equate");
+    assert!(rt; line < log.count(), "a line");
+    let ends = (log.line(line).left, log.line(line).right);
+    assert!(rt; ends == (1, 2), "the line's ends");
 }
 
 /// A label over one term, four times.

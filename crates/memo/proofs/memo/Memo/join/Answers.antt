@@ -8,14 +8,17 @@ use Rattle.memo.proofs.memo.Memo.join.Goals as goal
 pub join_in-joined-requires : goal.join_in-joined-requires
 join_in-joined-requires g c =
     let m = c.self.inside in record {
-      kept = subst (λ es. IsMemo m.log.terms m.log.lines es m.known.items m.index.entries m.joins.items) (sym c.as_slice.ensures.value) (c.self.invariant c.if-self.false);
+      kept = subst (λ es. IsMemo m.log.terms m.log.lines es m.known.items m.index.entries m.joins.items) (sym c.as_slice.ensures.value) (c.self.invariant c.if-self.false).memo;
     }
 
 pub invariant_of-self : goal.invariant_of-self
 invariant_of-self g c = λ s.
     let m = c.self.inside in
     let n = c.join_in-joined.new in
-    subst (λ es. IsMemo n.log.terms n.log.lines es n.known.items m.index.entries n.joins.items) c.as_slice.ensures.value c.in-Ok.ensures.kept
+    record {
+      memo = subst (λ es. IsMemo n.log.terms n.log.lines es n.known.items m.index.entries n.joins.items) c.as_slice.ensures.value c.in-Ok.ensures.kept;
+      members = (c.self.invariant c.if-self.false).members;
+    }
 
 pub returns-in-Ok-clause-ok : goal.returns-in-Ok-clause-ok
 returns-in-Ok-clause-ok g c =

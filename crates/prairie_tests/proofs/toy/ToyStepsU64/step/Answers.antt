@@ -1,4 +1,4 @@
-use Rattle.std.proofs.Common.{ℕ, List, Some, ◌≡◌, refl, ap, sym, ◌∙◌, subst}
+use Rattle.std.proofs.Common.{ℕ, List, Some, refl, ap, sym, ◌∙◌, subst}
 use Rattle.derivation.specs.Table.{term}
 use Rattle.derivation.specs.Terms.{GivesStep}
 use Rattle.derivation.specs.declared.terms.Term.{Term}
