@@ -2,6 +2,7 @@
 //! otherwise than they say.
 #![tactic(auto)]
 
+mod equal;
 mod listed;
 mod members;
 mod prints;

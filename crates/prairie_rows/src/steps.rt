@@ -1,10 +1,11 @@
 // Rows of the trees of queries, and of what rules make of them, ask of them and cost there.
-ghost use Rattle.std.specs.Prelude.{◌≡◌, ◌<◌, length};
+ghost use Rattle.std.specs.Prelude.{◌≡◌, ◌<◌, length, IfOk};
 ghost use Rattle.descriptor_types.specs.Labels.{seen_tree};
 ghost use Rattle.property_classes.specs.Classes.{classes_of};
 ghost use Rattle.query_tree.specs.Trees.{IsTree};
 ghost use Rattle.rule_syntax.specs.SeenRules.{seen_rules};
 
+use crate::equal::{push_merged, stepped_term};
 use crate::listed::plan_of;
 use crate::members::{items, said, said_string, string};
 use crate::prints::rules_of;
@@ -21,7 +22,7 @@ use descriptor_types::Tree;
 use plan_form::implements;
 use pr_value::Text;
 use property_classes::Classes;
-use query_tree::{QueryRefusal, add_tree, build, i_step, t_step};
+use query_tree::{QueryRefusal, TreeLabel, add_tree, build, i_step, t_step};
 use rule_lex::{LexError, tokens};
 use rule_syntax::{QueryText, SyntaxError, read_query};
 use rule_types::{AcceptError, Accepted, accept};
@@ -85,10 +86,10 @@ fn said_text(
 
 /// Under what a row builds its tree and takes its rule.
 #[derive(Clone, Copy)]
-struct Under<'a> {
-    accepted: &'a Accepted,
-    classes: &'a Classes,
-    catalog: &'a Catalog,
+pub struct Under<'a> {
+    pub accepted: &'a Accepted,
+    pub classes: &'a Classes,
+    pub catalog: &'a Catalog,
 }
 
 /// The tree of the row's query, or what the row's rule makes of it or asks and costs there.
@@ -116,8 +117,8 @@ fn came_of(
     }
 }
 
-/// The tree, or what the row's T-rule makes of it, or what its I-rule asks and costs there, or
-/// whether its plan implements it, or its terms.
+/// The tree, or what the row's T-rule makes of it or merges in a memo of it, or what its I-rule asks
+/// and costs there, or whether its plan implements it, or its terms.
 fn told(alloc: Global, under: &Under<'_>, row: &Json, tree: &Tree) -> Result<Text, Trouble>
     requires classes { under.now.classes.now ≡ classes_of (seen_rules under.now.accepted.now.rules) }
     requires tree { IsTree (seen_rules under.now.accepted.now.rules) under.now.catalog.now
@@ -126,6 +127,8 @@ fn told(alloc: Global, under: &Under<'_>, row: &Json, tree: &Tree) -> Result<Tex
     let mut out = Text::new(alloc);
     if let Some(json) = row.get("trule") {
         tell_rewritten(alloc, under, string(json, "trule")?, tree, &mut out)?;
+    } else if let Some(json) = row.get("merged") {
+        tell_merged(alloc, under, string(json, "merged")?, tree, &mut out)?;
     } else if let Some(json) = row.get("irule") {
         tell_implemented(alloc, under, string(json, "irule")?, tree, &mut out)?;
     } else if let Some(json) = row.get("plan") {
@@ -138,7 +141,20 @@ fn told(alloc: Global, under: &Under<'_>, row: &Json, tree: &Tree) -> Result<Tex
     Ok(out)
 }
 
-/// What the T-rule of that name makes of the tree.
+/// The number of the T-rule of that name.
+fn trule_named(accepted: &Accepted, name: &str) -> Result<usize, Trouble>
+    ensures { IfOk result (λ n. n < length accepted.now.rules.trules) }
+{
+    let rules = accepted.rules.trules.as_slice();
+    for number in 0..rules.len() {
+        if rules[number].name.as_slice() == name.as_bytes() {
+            return Ok(number);
+        }
+    }
+    Err(Trouble::Misshapen("the name of a T-rule"))
+}
+
+/// What the T-rule of that name makes of the tree, and whether it makes another on terms.
 fn tell_rewritten(
     alloc: Global,
     under: &Under<'_>,
@@ -150,16 +166,62 @@ fn tell_rewritten(
     requires tree { IsTree (seen_rules under.now.accepted.now.rules) under.now.catalog.now
         (seen_tree tree.now) }
 {
-    let accepted = under.accepted;
-    for (number, rule) in accepted.rules.trules.as_slice().iter().enumerate() {
-        if rule.name.as_slice() == name.as_bytes() {
-            match t_step(alloc, accepted, under.classes, under.catalog, number, tree)? {
-                Some(made) => push_tree(alloc, &accepted.rules, &made, 0, out)?,
-                None => out.push_bytes(b"none\n")?,
-            }
+    let Under {
+        accepted,
+        classes,
+        catalog,
+    } = *under;
+    let number = trule_named(accepted, name)?;
+    let mut terms = Terms::new(alloc);
+    let stepped = stepped_term(alloc, under, number, tree, &mut terms)?;
+    match t_step(alloc, accepted, classes, catalog, number, tree)? {
+        Some(made) => tell_made(alloc, under, &made, &mut terms, stepped, out),
+        None => {
+            out.push_bytes(b"none\n")?;
+            tell_same(stepped.is_none(), out)
         }
     }
+}
+
+/// The tree that a T-rule makes, and whether its term is another than the one that it makes there.
+fn tell_made(
+    alloc: Global,
+    under: &Under<'_>,
+    made: &Tree,
+    terms: &mut Terms<TreeLabel>,
+    stepped: Option<usize>,
+    out: &mut Text,
+) -> Result<(), Trouble>
+    requires classes { under.now.classes.now ≡ classes_of (seen_rules under.now.accepted.now.rules) }
+    requires tree { IsTree (seen_rules under.now.accepted.now.rules) under.now.catalog.now
+        (seen_tree made.now) }
+{
+    push_tree(alloc, &under.accepted.rules, made, 0, out)?;
+    let term = add_tree(alloc, under.accepted, under.classes, made, terms)?;
+    tell_same(stepped == Some(term), out)
+}
+
+fn tell_same(same: bool, out: &mut Text) -> Result<(), Trouble> {
+    if !same {
+        out.push_bytes(b"otherwise on terms\n")?;
+    }
     Ok(())
+}
+
+/// What a memo of the tree merges where the T-rule of that name makes a tree over parts of it.
+fn tell_merged(
+    alloc: Global,
+    under: &Under<'_>,
+    name: &str,
+    tree: &Tree,
+    out: &mut Text,
+) -> Result<(), Trouble>
+    requires classes { under.now.classes.now ≡ classes_of (seen_rules under.now.accepted.now.rules) }
+    requires tree { IsTree (seen_rules under.now.accepted.now.rules) under.now.catalog.now
+        (seen_tree tree.now) }
+{
+    let number = trule_named(under.accepted, name)?;
+    push_merged(alloc, under, number, tree, out)
 }
 
 /// What the I-rule of that name asks and costs at the tree.

@@ -1,3 +1,4 @@
+use memo::MemoError;
 use pr_value::{Memory, SymbolError};
 use std::alloc::{AllocError, AllocFailed};
 use std::{fmt, io};
@@ -30,6 +31,12 @@ impl<T: Drop> From<AllocFailed<T>> for Trouble {
 
 impl From<Memory> for Trouble {
     fn from(_error: Memory) -> Trouble {
+        Trouble::Memory
+    }
+}
+
+impl From<MemoError> for Trouble {
+    fn from(_error: MemoError) -> Trouble {
         Trouble::Memory
     }
 }

@@ -108,6 +108,20 @@ impl Classes {
         })
     }
 
+    /// The same classes again.
+    pub fn copy(&self, alloc: Global) -> Result<Classes, Memory>
+        ensures { IfOk result (λ c. c ≡ self.now) }
+    {
+        let classes = Items::from_slice(alloc, self.classes.as_slice())?;
+        let seen = self.seen.copy(alloc)?;
+        let physical = self.physical.copy(alloc)?;
+        Ok(Classes {
+            classes,
+            seen,
+            physical,
+        })
+    }
+
     /// The class of the property at a place, from 0.
     pub fn class_of(&self, p: usize) -> PropertyClass
         requires { p < length self.now }

@@ -143,7 +143,7 @@ map-push : {X Y : Type 0} (f : X → Y) (xs : List X) (x : X) → map f (xs ++ x
 map-push f [] x = refl
 map-push f (y ∷ xs) x = ap (λ ys. f y ∷ ys) (map-push f xs x)
 
-map-take : {X Y : Type 0} (f : X → Y) (xs : List X) (i : ℕ) (x : X) → i < length xs → x ≡ get_or xs i x → map f (take (i + 1) xs) ≡ map f (take i xs) ++ f x ∷ []
+pub map-take : {X Y : Type 0} (f : X → Y) (xs : List X) (i : ℕ) (x : X) → i < length xs → x ≡ get_or xs i x → map f (take (i + 1) xs) ≡ map f (take i xs) ++ f x ∷ []
 map-take f xs i x within is = sym (made-more f f (take i xs) (take i xs ++ x ∷ []) x xs i x within is refl refl refl) ∙ map-push f (take i xs) x
 
 pub stand-more : (r : Rules) (old new : List (Term TreeLabel)) (ns ms : List ℕ) (us : List rust.Tree) (i : ℕ) (x : rust.Tree) (n : ℕ) → i < length us → x ≡ get_or us i x → take (length old) new ≡ old

@@ -19,3 +19,8 @@ pub mod RunLaws
 pub mod ScopeLaws
 pub mod SoundLaws
 pub mod StepLaws
+pub mod TermFitLaws
+pub mod TermMadeLaws
+pub mod TermMatchLaws
+pub mod TermStepLaws
+pub mod TreeStepsLaws

@@ -19,6 +19,10 @@ mod refusal;
 mod refusing;
 mod scopes;
 mod t_steps;
+mod term_fits;
+mod term_making;
+mod term_matching;
+mod tree_steps;
 mod under;
 
 pub use adding::add_tree;
@@ -30,3 +34,4 @@ pub use i_steps::i_step;
 pub use labels::TreeLabel;
 pub use refusal::QueryRefusal;
 pub use t_steps::t_step;
+pub use tree_steps::TreeSteps;

@@ -30,7 +30,7 @@ pub(crate) struct Found<'t> {
 }
 
 /// Whether the operator of that number has that name.
-fn is_named(rules: &Rules, op: usize, name: &Symbol) -> bool
+pub(crate) fn is_named(rules: &Rules, op: usize, name: &Symbol) -> bool
     ensures { result ≡ spec.is_named (slice_get (seen_rules rules.now).operators op) name.now }
 {
     match rules.operators.as_slice().get(op) {

@@ -71,7 +71,7 @@ fn trule_env<'a>(
 }
 
 /// The environment after the statements of a rule, or none where its test is false.
-fn trule_run<'a>(
+pub(crate) fn trule_run<'a>(
     alloc: Global,
     under: &Under<'a>,
     rule: &TRule,
