@@ -17,7 +17,7 @@ use Rattle.rule_syntax.specs.Tokens.{Text, m, commas, expr_tokens, exprs_tokens,
 use Rattle.rule_syntax.specs.Spelled.{is_free, spells_expr, spells_exprs}
 use Rattle.rule_syntax.specs.Levels.{levels, list_levels}
 use Rattle.rule_syntax.specs.Reading.{◌>>=◌, Reader, same_mark, mark_at, truth_of, fold_of, closed_at}
-use Rattle.rule_syntax.specs.ReadingExpr.{named_at, folded_at, binary_at, word_expr, level_at, expr_at}
+use Rattle.rule_syntax.specs.ReadingExpr.{named_at, parameter_at, each_at, folded_at, operand_at, binary_at, word_expr, level_at, expr_at}
 use Rattle.rule_syntax.proofs.TokenLaws.{on_some, some_same, guard_some, both_true, and_true, mark_sound, word_sound, name_sound, name_complete, binop_sound, binop_complete, truth_named, fold_named, free_no_truth, free_no_fold}
 use Rattle.rule_syntax.proofs.ListLaws.{Sound, Complete, Every, Good, Closes, closed_sound, closed_complete, good_every, every_spelled, every_shallow}
 use Rattle.rule_syntax.proofs.PartLists.{list_from, from_list, exprs_tokens-list, spells_exprs-list, list_levels-list}
@@ -130,36 +130,31 @@ binary_text : (a : Expr) (o : BinOp) (b : Expr) (rest : Text) → expr_tokens (b
     ≡ token.Mark mark.OpenParen ∷ (expr_tokens a ++ token.Mark (binop_mark o) ∷ (expr_tokens b ++ token.Mark mark.CloseParen ∷ rest))
 binary_text a o b rest = simp append_assoc
 
--- a binary operation's tokens, piece by piece
-binary_pieces : (ts a1 o1 b1 r : Text) (a : Expr) (o : BinOp) (b : Expr) → ts ≡ expr_tokens a ++ a1 → a1 ≡ token.Mark (binop_mark o) ∷ o1 → o1 ≡ expr_tokens b ++ b1 → b1 ≡ token.Mark mark.CloseParen ∷ r
-    → token.Mark mark.OpenParen ∷ ts ≡ expr_tokens (binary a o b) ++ r
-binary_pieces ts a1 o1 b1 r a o b h1 h2 h3 h4 =
-    ap (λ us. token.Mark mark.OpenParen ∷ us)
-    (h1 ∙ ap (λ us. expr_tokens a ++ us) (h2 ∙ ap (λ us. token.Mark (binop_mark o) ∷ us) (h3 ∙ ap (λ us. expr_tokens b ++ us) h4))) ∙ sym (binary_text a o b r)
+operand_sound : (n : ℕ) (read : Reader Expr) → Sound expr_tokens (GoodExpr n) read → (ts : Text) (x : (BinOp × Expr) × Text) → operand_at read ts ≡ Some x
+    → GoodExpr n x.0.1 × (ts ≡ token.Mark (binop_mark x.0.0) ∷ (expr_tokens x.0.1 ++ token.Mark mark.CloseParen ∷ x.1))
+unfolding operand_at
+operand_sound n read sound ts x e =
+    on_some _ _ x e (λ o h2 e. on_some _ _ x e (λ b h3 e. on_some _ _ x e (λ r h4 e.
+    let sb = sound o.1 b h3 in
+    subst (λ (y : (BinOp × Expr) × Text). GoodExpr n y.0.1 × (ts ≡ token.Mark (binop_mark y.0.0) ∷ (expr_tokens y.0.1 ++ token.Mark mark.CloseParen ∷ y.1))) (some_same ((o.0, b.0), r) x e)
+    (sb.0, binop_sound ts o h2 ∙ ap (λ us. token.Mark (binop_mark o.0) ∷ us) (sb.1 ∙ ap (λ us. expr_tokens b.0 ++ us) (mark_sound mark.CloseParen b.1 r h4))))))
 
 binary_sound : (n : ℕ) (read : Reader Expr) → Sound expr_tokens (GoodExpr n) read → (ts : Text) (x : Expr × Text) → binary_at read ts ≡ Some x → Reads (suc n) (token.Mark mark.OpenParen ∷ ts) x.0 x.1
 unfolding binary_at
 binary_sound n read sound ts x e =
-    on_some _ _ x e (λ a h1 e. on_some _ _ x e (λ o h2 e. on_some _ _ x e (λ b h3 e. on_some _ _ x e (λ r h4 e.
+    on_some _ _ x e (λ a h1 e. on_some _ _ x e (λ y h2 e.
     let sa = sound ts a h1 in
-    let sb = sound o.1 b h3 in
+    let sb = operand_sound n read sound a.1 y h2 in
     let la = sa.0.shallow in
     let lb = sb.0.shallow in
-    subst (λ (y : Expr × Text). Reads (suc n) (token.Mark mark.OpenParen ∷ ts) y.0 y.1) (some_same (binary a.0 o.0 b.0, r) x e) (record {
-      good = record { spelled = and_true (spells_expr a.0) (spells_expr b.0) (sa.0.spelled) (sb.0.spelled); shallow = omega (arith, la, lb) };
-      text = binary_pieces ts a.1 o.1 b.1 r a.0 o.0 b.0 (sa.1) (binop_sound a.1 o h2) (sb.1) (mark_sound mark.CloseParen b.1 r h4);
-    })))))
+    subst (λ (z : Expr × Text). Reads (suc n) (token.Mark mark.OpenParen ∷ ts) z.0 z.1) (some_same (binary a.0 y.0.0 y.0.1, y.1) x e) (record {
+      good = record { spelled = and_true (spells_expr a.0) (spells_expr y.0.1) (sa.0.spelled) (sb.0.spelled); shallow = omega (arith, la, lb) };
+      text = ap (λ us. token.Mark mark.OpenParen ∷ us) (sa.1 ∙ ap (λ us. expr_tokens a.0 ++ us) (sb.1)) ∙ sym (binary_text a.0 y.0.0 y.0.1 y.1);
+    })))
 
 fold_text : (k : FoldKind) (x : Symbol) (over each : Expr) (rest : Text) → expr_tokens (fold k x over each) ++ rest
     ≡ token.Name (fold_name k) ∷ token.Mark mark.OpenParen ∷ token.Name x ∷ token.Name (codes "in") ∷ (expr_tokens over ++ token.Mark mark.Colon ∷ (expr_tokens each ++ token.Mark mark.CloseParen ∷ rest))
 fold_text k x over each rest = simp append_assoc
-
--- a fold's tokens, piece by piece
-fold_pieces : (ts r x1 s o1 t e1 u : Text) (k : FoldKind) (x : Symbol) (over each : Expr) → ts ≡ token.Mark mark.OpenParen ∷ r → r ≡ token.Name x ∷ x1 → x1 ≡ token.Name (codes "in") ∷ s → s ≡ expr_tokens over ++ o1
-    → o1 ≡ token.Mark mark.Colon ∷ t → t ≡ expr_tokens each ++ e1 → e1 ≡ token.Mark mark.CloseParen ∷ u → token.Name (fold_name k) ∷ ts ≡ expr_tokens (fold k x over each) ++ u
-fold_pieces ts r x1 s o1 t e1 u k x over each h1 h2 h3 h4 h5 h6 h7 =
-    ap (λ us. token.Name (fold_name k) ∷ us) (h1 ∙ ap (λ us. token.Mark mark.OpenParen ∷ us) (h2 ∙ ap (λ us. token.Name x ∷ us) (h3 ∙ ap (λ us. token.Name (codes "in") ∷ us)
-    (h4 ∙ ap (λ us. expr_tokens over ++ us) (h5 ∙ ap (λ us. token.Mark mark.Colon ∷ us) (h6 ∙ ap (λ us. expr_tokens each ++ us) h7)))))) ∙ sym (fold_text k x over each u)
 
 good_fold : (n : ℕ) (k : FoldKind) (x : Symbol) (over each : Expr) → is_free x ≡ true → GoodExpr n over → GoodExpr n each → GoodExpr (suc n) (fold k x over each)
 good_fold n k x over each free a b =
@@ -167,17 +162,35 @@ good_fold n k x over each free a b =
     let lb = b.shallow in
     record { spelled = and_true (is_free x && spells_expr over) (spells_expr each) (and_true (is_free x) (spells_expr over) free a.spelled) b.spelled; shallow = omega (arith, la, lb) }
 
+parameter_sound : (ts : Text) (x : Symbol × Text) → parameter_at ts ≡ Some x → (is_free x.0 ≡ true) × (ts ≡ token.Mark mark.OpenParen ∷ token.Name x.0 ∷ token.Name (codes "in") ∷ x.1)
+unfolding parameter_at
+parameter_sound ts x e =
+    on_some _ _ x e (λ r h1 e. on_some _ _ x e (λ y h2 e. on_some _ _ x e (λ s h3 e.
+    let sy = name_sound r y h2 in
+    subst (λ (z : Symbol × Text). (is_free z.0 ≡ true) × (ts ≡ token.Mark mark.OpenParen ∷ token.Name z.0 ∷ token.Name (codes "in") ∷ z.1)) (some_same (y.0, s) x e)
+    (sy.0, mark_sound mark.OpenParen ts r h1 ∙ ap (λ us. token.Mark mark.OpenParen ∷ us) (sy.1 ∙ ap (λ us. token.Name y.0 ∷ us) (word_sound (codes "in") y.1 s h3))))))
+
+each_sound : (n : ℕ) (read : Reader Expr) → Sound expr_tokens (GoodExpr n) read → (ts : Text) (x : Expr × Text) → each_at read ts ≡ Some x
+    → GoodExpr n x.0 × (ts ≡ token.Mark mark.Colon ∷ (expr_tokens x.0 ++ token.Mark mark.CloseParen ∷ x.1))
+unfolding each_at
+each_sound n read sound ts x e =
+    on_some _ _ x e (λ t h1 e. on_some _ _ x e (λ b h2 e. on_some _ _ x e (λ u h3 e.
+    let sb = sound t b h2 in
+    subst (λ (z : Expr × Text). GoodExpr n z.0 × (ts ≡ token.Mark mark.Colon ∷ (expr_tokens z.0 ++ token.Mark mark.CloseParen ∷ z.1))) (some_same (b.0, u) x e)
+    (sb.0, mark_sound mark.Colon ts t h1 ∙ ap (λ us. token.Mark mark.Colon ∷ us) (sb.1 ∙ ap (λ us. expr_tokens b.0 ++ us) (mark_sound mark.CloseParen b.1 u h3))))))
+
 folded_sound : (n : ℕ) (read : Reader Expr) → Sound expr_tokens (GoodExpr n) read → (k : FoldKind) (ts : Text) (x : Expr × Text) → folded_at read k ts ≡ Some x → Reads (suc n) (token.Name (fold_name k) ∷ ts) x.0 x.1
 unfolding folded_at
 folded_sound n read sound k ts x e =
-    on_some _ _ x e (λ r h1 e. on_some _ _ x e (λ y h2 e. on_some _ _ x e (λ s h3 e. on_some _ _ x e (λ o h4 e. on_some _ _ x e (λ t h5 e. on_some _ _ x e (λ b h6 e. on_some _ _ x e (λ u h7 e.
-    let sy = name_sound r y h2 in
-    let so = sound s o h4 in
-    let sb = sound t b h6 in
-    subst (λ (z : Expr × Text). Reads (suc n) (token.Name (fold_name k) ∷ ts) z.0 z.1) (some_same (fold k y.0 o.0 b.0, u) x e) (record {
+    on_some _ _ x e (λ y h1 e. on_some _ _ x e (λ o h2 e. on_some _ _ x e (λ b h3 e.
+    let sy = parameter_sound ts y h1 in
+    let so = sound y.1 o h2 in
+    let sb = each_sound n read sound o.1 b h3 in
+    subst (λ (z : Expr × Text). Reads (suc n) (token.Name (fold_name k) ∷ ts) z.0 z.1) (some_same (fold k y.0 o.0 b.0, b.1) x e) (record {
       good = good_fold n k y.0 o.0 b.0 (sy.0) (so.0) (sb.0);
-      text = fold_pieces ts r y.1 s o.1 t b.1 u k y.0 o.0 b.0 (mark_sound mark.OpenParen ts r h1) (sy.1) (word_sound (codes "in") y.1 s h3) (so.1) (mark_sound mark.Colon o.1 t h5) (sb.1) (mark_sound mark.CloseParen b.1 u h7);
-    }))))))))
+      text = ap (λ us. token.Name (fold_name k) ∷ us) (sy.1 ∙ ap (λ us. token.Mark mark.OpenParen ∷ token.Name y.0 ∷ token.Name (codes "in") ∷ us) (so.1 ∙ ap (λ us. expr_tokens o.0 ++ us) (sb.1)))
+          ∙ sym (fold_text k y.0 o.0 b.0 b.1);
+    }))))
 
 word_expr_sound : (n : ℕ) (read : Reader Expr) → Sound expr_tokens (GoodExpr n) read → (s : Symbol) (ts : Text) (b : Option Bool) (k : Option FoldKind) → truth_of s ≡ b → fold_of s ≡ k → (x : Expr × Text) → word_expr read s ts b k ≡ Some x
     → Reads (suc n) (token.Name s ∷ ts) x.0 x.1
@@ -263,19 +276,22 @@ op_ends op.Or ts = refl
 
 binary_complete : (n : ℕ) (read : Reader Expr) → Complete expr_tokens (GoodExpr n) Ends read → (a : Expr) (o : BinOp) (b : Expr) → GoodExpr n a → GoodExpr n b → (rest : Text)
     → binary_at read (expr_tokens a ++ token.Mark (binop_mark o) ∷ (expr_tokens b ++ token.Mark mark.CloseParen ∷ rest)) ≡ Some (binary a o b, rest)
-unfolding binary_at
+unfolding binary_at operand_at
 binary_complete n read complete a o b ga gb rest =
     let close = token.Mark mark.CloseParen ∷ rest in
     let behind_op = expr_tokens b ++ close in
-    step _ _ _ _ (complete a ga (token.Mark (binop_mark o) ∷ behind_op) (op_ends o behind_op)) (step _ _ _ _ (binop_complete o behind_op) (step _ _ _ _ (complete b gb close refl) refl))
+    let operand = step _ _ _ (Some ((o, b), rest)) (binop_complete o behind_op) (step _ _ _ _ (complete b gb close refl) refl) in
+    step _ _ _ _ (complete a ga (token.Mark (binop_mark o) ∷ behind_op) (op_ends o behind_op)) (step _ _ _ _ operand refl)
 
 folded_complete : (n : ℕ) (read : Reader Expr) → Complete expr_tokens (GoodExpr n) Ends read → (k : FoldKind) (x : Symbol) (over each : Expr) → is_free x ≡ true → GoodExpr n over → GoodExpr n each → (rest : Text)
     → folded_at read k (token.Mark mark.OpenParen ∷ token.Name x ∷ token.Name (codes "in") ∷ (expr_tokens over ++ token.Mark mark.Colon ∷ (expr_tokens each ++ token.Mark mark.CloseParen ∷ rest))) ≡ Some (fold k x over each, rest)
-unfolding folded_at
+unfolding folded_at parameter_at each_at
 folded_complete n read complete k x over each free go ge rest =
     let close = token.Mark mark.CloseParen ∷ rest in
     let behind_over = token.Mark mark.Colon ∷ (expr_tokens each ++ close) in
-    step _ _ _ _ (name_complete x (token.Name (codes "in") ∷ (expr_tokens over ++ behind_over)) free) (step _ _ _ _ (complete over go behind_over refl) (step _ _ _ _ (complete each ge close refl) refl))
+    let parameter = step _ _ _ (Some (x, expr_tokens over ++ behind_over)) (name_complete x (token.Name (codes "in") ∷ (expr_tokens over ++ behind_over)) free) refl in
+    let every = step _ _ _ (Some (each, rest)) (complete each ge close refl) refl in
+    step _ _ _ _ parameter (step _ _ _ _ (complete over go behind_over refl) (step _ _ _ _ every refl))
 
 -- what each word begins
 truth_word : (read : Reader Expr) (b : Bool) (ts : Text) → word_expr read (truth_name b) ts (truth_of (truth_name b)) (fold_of (truth_name b)) ≡ Some (truth b, ts)

@@ -15,7 +15,7 @@ use Rattle.rule_syntax.specs.Tokens.{Text, m, name, commas, kind_name, expr_toke
 use Rattle.rule_syntax.specs.Spelled.{is_free, has_some, spells_expr, spells_stmt, spells_body, spells_property, spells_operator, spells_algorithm, spells_param, spells_helper}
 use Rattle.rule_syntax.specs.Levels.{most, stmt_levels, body_levels, operator_levels, helper_levels}
 use Rattle.rule_syntax.specs.Reading.{unmarked, name_at}
-use Rattle.rule_syntax.specs.ReadingParts.{changed_at, stmt_at, block_at, body_at, property_at, operator_at, algorithm_at, param_at, helper_at}
+use Rattle.rule_syntax.specs.ReadingParts.{assigned_at, changed_at, stmt_at, block_at, body_at, property_at, operator_at, algorithm_at, param_at, signature_at, helper_at}
 use Rattle.rule_syntax.proofs.TokenLaws.{on_some, some_same, both_true, and_true, mark_sound, word_sound, name_sound, name_complete, number_sound, number_complete, kind_sound, kind_complete}
 use Rattle.rule_syntax.proofs.ListLaws.{Sound, Complete, Every, Good, Closes, filled_sound, filled_complete, closed_sound, closed_complete, many_sound, many_complete, many_length, all_every, every_all, good_every, every_spelled, every_shallow}
 use Rattle.rule_syntax.proofs.ExprLaws.{GoodExpr, step, expr_sound, expr_complete}
@@ -35,16 +35,30 @@ set_text : (d p : Symbol) (e : Expr) (rest : Text) → stmt_tokens (set d p e) +
     ≡ token.Name d ∷ token.Mark mark.Dot ∷ token.Name p ∷ token.Mark mark.Assign ∷ (expr_tokens e ++ token.Mark mark.Semicolon ∷ rest)
 set_text d p e rest = simp append_assoc
 
+assigned_sound : (n : ℕ) (ts : Text) (x : Expr × Text) → assigned_at n ts ≡ Some x → GoodExpr n x.0 × (ts ≡ token.Mark mark.Assign ∷ (expr_tokens x.0 ++ token.Mark mark.Semicolon ∷ x.1))
+unfolding assigned_at
+assigned_sound n ts x e =
+    on_some _ _ x e (λ r h1 e. on_some _ _ x e (λ v h2 e. on_some _ _ x e (λ s h3 e.
+    let sv = expr_sound n r v h2 in
+    subst (λ (y : Expr × Text). GoodExpr n y.0 × (ts ≡ token.Mark mark.Assign ∷ (expr_tokens y.0 ++ token.Mark mark.Semicolon ∷ y.1))) (some_same (v.0, s) x e) (
+      sv.0,
+      mark_sound mark.Assign ts r h1 ∙ ap (λ us. token.Mark mark.Assign ∷ us) (sv.1 ∙ ap (λ us. expr_tokens v.0 ++ us) (mark_sound mark.Semicolon v.1 s h3)),
+    ))))
+
+assigned_complete : (n : ℕ) (v : Expr) → GoodExpr n v → (rest : Text) → assigned_at n (token.Mark mark.Assign ∷ (expr_tokens v ++ token.Mark mark.Semicolon ∷ rest)) ≡ Some (v, rest)
+unfolding assigned_at
+assigned_complete n v good rest = step _ _ _ _ (expr_complete n v good (token.Mark mark.Semicolon ∷ rest) refl) refl
+
 changed_sound : (n : ℕ) (d : Symbol) → is_free d ≡ true → (ts : Text) (x : Stmt × Text) → changed_at n d ts ≡ Some x → GoodStmt n x.0 × (token.Name d ∷ ts ≡ stmt_tokens x.0 ++ x.1)
 unfolding changed_at
 changed_sound n d free (token.Mark mark.Dot ∷ ts) x e =
-    on_some _ _ x e (λ p h1 e. on_some _ _ x e (λ r h2 e. on_some _ _ x e (λ v h3 e. on_some _ _ x e (λ s h4 e.
+    on_some _ _ x e (λ p h1 e. on_some _ _ x e (λ v h2 e.
     let sp = name_sound ts p h1 in
-    let sv = expr_sound n r v h3 in
-    subst (λ (y : Stmt × Text). GoodStmt n y.0 × (token.Name d ∷ token.Mark mark.Dot ∷ ts ≡ stmt_tokens y.0 ++ y.1)) (some_same (set d p.0 v.0, s) x e) (
+    let sv = assigned_sound n p.1 v h2 in
+    subst (λ (y : Stmt × Text). GoodStmt n y.0 × (token.Name d ∷ token.Mark mark.Dot ∷ ts ≡ stmt_tokens y.0 ++ y.1)) (some_same (set d p.0 v.0, v.1) x e) (
       good_set n d p.0 v.0 free (sp.0) (sv.0),
-      rw (sp.1, mark_sound mark.Assign p.1 r h2, sv.1, mark_sound mark.Semicolon v.1 s h4) (sym (set_text d p.0 v.0 s)),
-    )))))
+      rw (sp.1, sv.1) (sym (set_text d p.0 v.0 v.1)),
+    )))
 changed_sound n d free (token.Mark mark.Assign ∷ ts) x e =
     on_some _ _ x e (λ p h1 e. on_some _ _ x e (λ s h2 e.
     let sp = name_sound ts p h1 in
@@ -64,8 +78,7 @@ set_complete : (n : ℕ) (d p : Symbol) (v : Expr) → is_free p ≡ true → Go
     → changed_at n d (token.Mark mark.Dot ∷ token.Name p ∷ token.Mark mark.Assign ∷ (expr_tokens v ++ token.Mark mark.Semicolon ∷ rest)) ≡ Some (set d p v, rest)
 unfolding changed_at
 set_complete n d p v free good rest =
-    let behind = token.Mark mark.Semicolon ∷ rest in
-    step _ _ _ _ (name_complete p (token.Mark mark.Assign ∷ (expr_tokens v ++ behind)) free) (step _ _ _ _ (expr_complete n v good behind refl) refl)
+    step _ _ _ _ (name_complete p (token.Mark mark.Assign ∷ (expr_tokens v ++ token.Mark mark.Semicolon ∷ rest)) free) (step _ _ _ _ (assigned_complete n v good rest) refl)
 
 copy_complete : (n : ℕ) (d e : Symbol) → is_free e ≡ true → (rest : Text) → changed_at n d (token.Mark mark.Assign ∷ token.Name e ∷ token.Mark mark.Semicolon ∷ rest) ≡ Some (copy d e, rest)
 unfolding changed_at
@@ -285,28 +298,40 @@ helper_text : (h : Helper) (rest : Text) → helper_tokens h ++ rest
     (expr_tokens h.body ++ token.Mark mark.Semicolon ∷ rest))
 helper_text h rest = simp append_assoc
 
+signature_sound : (ts : Text) (x : (Symbol × List Param) × Text) → signature_at ts ≡ Some x
+    → (is_free x.0.0 ≡ true) × (Every GoodParam x.0.1 × (ts ≡ token.Name x.0.0 ∷ token.Mark mark.OpenParen ∷ (commas (map param_tokens x.0.1) ++ token.Mark mark.CloseParen ∷ x.1)))
+unfolding signature_at
+signature_sound ts x e =
+    on_some _ _ x e (λ h h1 e. on_some _ _ x e (λ s h2 e. on_some _ _ x e (λ ps h3 e.
+    let sn = name_sound ts h h1 in
+    let sp = closed_sound param_tokens GoodParam param_at param_sound mark.CloseParen s ps h3 in
+    subst (λ (y : (Symbol × List Param) × Text). (is_free y.0.0 ≡ true) × (Every GoodParam y.0.1 × (ts ≡ token.Name y.0.0 ∷ token.Mark mark.OpenParen ∷ (commas (map param_tokens y.0.1) ++ token.Mark mark.CloseParen ∷ y.1))))
+    (some_same ((h.0, ps.0), ps.1) x e) (sn.0, (sp.0, sn.1 ∙ ap (λ us. token.Name h.0 ∷ us) (mark_sound mark.OpenParen h.1 s h2 ∙ ap (λ us. token.Mark mark.OpenParen ∷ us) (sp.1)))))))
+
+signature_complete : (h : Symbol) (ps : List Param) → is_free h ≡ true → Every GoodParam ps → (rest : Text)
+    → signature_at (token.Name h ∷ token.Mark mark.OpenParen ∷ (commas (map param_tokens ps) ++ token.Mark mark.CloseParen ∷ rest)) ≡ Some ((h, ps), rest)
+unfolding signature_at
+signature_complete h ps free good rest =
+    step _ _ _ _ (name_complete h (token.Mark mark.OpenParen ∷ (commas (map param_tokens ps) ++ token.Mark mark.CloseParen ∷ rest)) free)
+    (step _ _ _ _ (closed_complete param_tokens GoodParam Any param_at param_complete (λ ts. tt) some_param mark.CloseParen closes_params ps good rest) refl)
+
 pub helper_sound : (n : ℕ) → Sound helper_tokens (GoodHelper n) (helper_at n)
 helper_sound n ts x e =
-    on_some _ _ x e (λ r h1 e. on_some _ _ x e (λ h h2 e. on_some _ _ x e (λ s h3 e. on_some _ _ x e (λ ps h4 e. on_some _ _ x e (λ t h5 e. on_some _ _ x e (λ (k : Kind × Text) h6 e. on_some _ _ x e (λ u h7 e.
-    on_some _ _ x e (λ b h8 e. on_some _ _ x e (λ v h9 e.
-    let sn = name_sound r h h2 in
-    let sp = closed_sound param_tokens GoodParam param_at param_sound mark.CloseParen s ps h4 in
-    let sb = expr_sound n u b h8 in
-    subst (λ (y : Helper × Text). GoodHelper n y.0 × (ts ≡ helper_tokens y.0 ++ y.1)) (some_same (record { name = h.0; params = ps.0; result = k.0; body = b.0 }, v) x e) (
-      good_helper n h.0 ps.0 k.0 b.0 (sn.0) (sp.0) (sb.0),
-      rw
-          (word_sound (codes "helper") ts r h1, sn.1, mark_sound mark.OpenParen h.1 s h3, sp.1, mark_sound mark.Colon ps.1 t h5, kind_sound t k h6, mark_sound mark.Assign k.1 u h7, sb.1, mark_sound mark.Semicolon b.1 v h9)
-          (sym (helper_text (record { name = h.0; params = ps.0; result = k.0; body = b.0 }) v)),
-    ))))))))))
+    on_some _ _ x e (λ r h1 e. on_some _ _ x e (λ h h2 e. on_some _ _ x e (λ t h3 e. on_some _ _ x e (λ (k : Kind × Text) h4 e. on_some _ _ x e (λ b h5 e.
+    let sh = signature_sound r h h2 in
+    let sb = assigned_sound n k.1 b h5 in
+    subst (λ (y : Helper × Text). GoodHelper n y.0 × (ts ≡ helper_tokens y.0 ++ y.1)) (some_same (record { name = h.0.0; params = h.0.1; result = k.0; body = b.0 }, b.1) x e) (
+      good_helper n h.0.0 h.0.1 k.0 b.0 (sh.0) (sh.1.0) (sb.0),
+      rw (word_sound (codes "helper") ts r h1, sh.1.1, mark_sound mark.Colon h.1 t h3, kind_sound t k h4, sb.1)
+          (sym (helper_text (record { name = h.0.0; params = h.0.1; result = k.0; body = b.0 }) b.1)),
+    ))))))
 
 pub helper_complete : (n : ℕ) → Complete helper_tokens (GoodHelper n) Any (helper_at n)
 helper_complete n h good rest any =
     let g = both_true (is_free h.name && list_all spells_param h.params) (spells_expr h.body) good.spelled in
     let f = both_true (is_free h.name) (list_all spells_param h.params) (g.0) in
-    let behind_body = token.Mark mark.Semicolon ∷ rest in
-    let behind_kind = token.Mark mark.Assign ∷ (expr_tokens h.body ++ behind_body) in
+    let behind_kind = token.Mark mark.Assign ∷ (expr_tokens h.body ++ token.Mark mark.Semicolon ∷ rest) in
     let behind_params = token.Mark mark.Colon ∷ token.Name (kind_name h.result) ∷ behind_kind in
     ap (helper_at n) (helper_text h rest) ∙
-    step _ _ _ _ (name_complete h.name (token.Mark mark.OpenParen ∷ (commas (map param_tokens h.params) ++ token.Mark mark.CloseParen ∷ behind_params)) (f.0))
-    (step _ _ _ _ (closed_complete param_tokens GoodParam Any param_at param_complete (λ ts. tt) some_param mark.CloseParen closes_params h.params (all_every spells_param h.params (f.1)) behind_params)
-    (step _ _ _ _ (kind_complete h.result behind_kind) (step _ _ _ _ (expr_complete n h.body (record { spelled = g.1; shallow = good.shallow }) behind_body refl) refl)))
+    step _ _ _ _ (signature_complete h.name h.params (f.0) (all_every spells_param h.params (f.1)) behind_params)
+    (step _ _ _ _ (kind_complete h.result behind_kind) (step _ _ _ _ (assigned_complete n h.body (record { spelled = g.1; shallow = good.shallow }) rest) refl))

@@ -4,6 +4,7 @@ use Rattle.pr_value.specs.Capped.{cap}
 use Rattle.pr_value.specs.Symbols.{Symbol, is_symbol}
 use Rattle.pr_value.specs.declared.token.Token.TheVariants as token
 use Rattle.pr_value.specs.declared.token.Mark.TheVariants as mark
+use Rattle.rule_syntax.specs.declared.expr.BinOp.{BinOp}
 use Rattle.rule_syntax.specs.declared.expr.FoldKind.{FoldKind}
 use Rattle.rule_syntax.specs.Syntax.{Expr, number, truth, symbol, set_of, list_of, var, call, binary, fold}
 use Rattle.rule_syntax.specs.Syntax as syntax
@@ -18,15 +19,25 @@ named_at read s (token.Mark mark.OpenParen ∷ ts) = closed_at read mark.ClosePa
 named_at read s (token.Mark mark.Dot ∷ ts) = name_at ts >>= (λ p. Some (syntax.read s p.0, p.1))
 named_at read s ts = Some (var s, ts)
 
+-- what stands behind a fold's name, up to what it runs over: a parameter
+unfoldable pub parameter_at : Reader Symbol
+parameter_at ts = mark_at mark.OpenParen ts >>= (λ r. name_at r >>= (λ x. word_at (codes "in") x.1 >>= (λ s. Some (x.0, s))))
+
+-- what stands behind what a fold runs over: an expression for each
+unfoldable pub each_at : Reader Expr → Reader Expr
+each_at read ts = mark_at mark.Colon ts >>= (λ t. read t >>= (λ each. mark_at mark.CloseParen each.1 >>= (λ u. Some (each.0, u))))
+
 -- what stands behind a fold's name
 unfoldable pub folded_at : Reader Expr → FoldKind → Reader Expr
-folded_at read k ts =
-    mark_at mark.OpenParen ts >>= (λ r. name_at r >>= (λ x. word_at (codes "in") x.1 >>= (λ s. read s >>= (λ over. mark_at mark.Colon over.1 >>= (λ t. read t >>= (λ each. mark_at mark.CloseParen each.1 >>= (λ u.
-    Some (fold k x.0 over.0 each.0, u))))))))
+folded_at read k ts = parameter_at ts >>= (λ x. read x.1 >>= (λ over. each_at read over.1 >>= (λ each. Some (fold k x.0 over.0 each.0, each.1))))
+
+-- what stands behind the first operand of a binary operation: its operator and the other operand
+unfoldable pub operand_at : Reader Expr → Reader (BinOp × Expr)
+operand_at read ts = binop_at ts >>= (λ o. read o.1 >>= (λ b. mark_at mark.CloseParen b.1 >>= (λ r. Some ((o.0, b.0), r))))
 
 -- what stands behind the parenthesis of a binary operation
 unfoldable pub binary_at : Reader Expr → Reader Expr
-binary_at read ts = read ts >>= (λ a. binop_at a.1 >>= (λ o. read o.1 >>= (λ b. mark_at mark.CloseParen b.1 >>= (λ r. Some (binary a.0 o.0 b.0, r)))))
+binary_at read ts = read ts >>= (λ a. operand_at read a.1 >>= (λ x. Some (binary a.0 x.0.0 x.0.1, x.1)))
 
 -- a truth value, a fold, or what a name begins
 abbrev pub word_expr : Reader Expr → Symbol → Text → Option Bool → Option FoldKind → Option (Expr × Text)

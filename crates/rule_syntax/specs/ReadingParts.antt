@@ -6,7 +6,7 @@ use Rattle.pr_value.specs.declared.token.Mark.TheVariants as mark
 use Rattle.pr_value.specs.declared.property.Property.{Property}
 use Rattle.rule_syntax.specs.declared.parts.Algorithm.{Algorithm}
 use Rattle.rule_syntax.specs.declared.parts.Param.{Param}
-use Rattle.rule_syntax.specs.Syntax.{Stmt, set, copy, Body, Operator, Helper}
+use Rattle.rule_syntax.specs.Syntax.{Expr, Stmt, set, copy, Body, Operator, Helper}
 use Rattle.rule_syntax.specs.Reading.{◌>>=◌, Reader, mark_at, unmarked, begins, word_at, name_at, number_at, kind_at, filled_at, closed_at, closing, many_at}
 use Rattle.rule_syntax.specs.ReadingExpr.{expr_at}
 
@@ -14,10 +14,13 @@ use Rattle.rule_syntax.specs.ReadingExpr.{expr_at}
 abbrev pub section_at : {A : Type 0} → Symbol → Reader A → Reader (List A)
 section_at word read ts = many_at (begins word) read (length ts) ts
 
+-- what is assigned: "=" expr ";"
+unfoldable pub assigned_at : ℕ → Reader Expr
+assigned_at n ts = mark_at mark.Assign ts >>= (λ r. expr_at n r >>= (λ e. mark_at mark.Semicolon e.1 >>= (λ s. Some (e.0, s))))
+
 -- what stands behind the name of the descriptor that is changed
 unfoldable pub changed_at : ℕ → Symbol → Reader Stmt
-changed_at n d (token.Mark mark.Dot ∷ ts) =
-    name_at ts >>= (λ p. mark_at mark.Assign p.1 >>= (λ r. expr_at n r >>= (λ e. mark_at mark.Semicolon e.1 >>= (λ s. Some (set d p.0 e.0, s)))))
+changed_at n d (token.Mark mark.Dot ∷ ts) = name_at ts >>= (λ p. assigned_at n p.1 >>= (λ e. Some (set d p.0 e.0, e.1)))
 changed_at n d (token.Mark mark.Assign ∷ ts) = name_at ts >>= (λ e. mark_at mark.Semicolon e.1 >>= (λ s. Some (copy d e.0, s)))
 changed_at n d ts = None
 
@@ -62,9 +65,12 @@ algorithm_at ts =
 abbrev pub param_at : Reader Param
 param_at ts = name_at ts >>= (λ n. mark_at mark.Colon n.1 >>= (λ r. kind_at r >>= (λ k. Some (record { name = n.0; kind = k.0 }, k.1))))
 
+-- a helper's name and parameters: NAME "(" [ param { "," param } ] ")"
+unfoldable pub signature_at : Reader (Symbol × List Param)
+signature_at ts = name_at ts >>= (λ h. mark_at mark.OpenParen h.1 >>= (λ s. closed_at param_at mark.CloseParen s >>= (λ ps. Some ((h.0, ps.0), ps.1))))
+
 -- helper = "helper" NAME "(" [ param { "," param } ] ")" ":" KIND "=" expr ";"
 abbrev pub helper_at : ℕ → Reader Helper
 helper_at n ts =
-    word_at (codes "helper") ts >>= (λ r. name_at r >>= (λ h. mark_at mark.OpenParen h.1 >>= (λ s. closed_at param_at mark.CloseParen s >>= (λ ps.
-    mark_at mark.Colon ps.1 >>= (λ t. kind_at t >>= (λ k. mark_at mark.Assign k.1 >>= (λ u. expr_at n u >>= (λ e. mark_at mark.Semicolon e.1 >>= (λ v.
-    Some (record { name = h.0; params = ps.0; result = k.0; body = e.0 }, v))))))))))
+    word_at (codes "helper") ts >>= (λ r. signature_at r >>= (λ h. mark_at mark.Colon h.1 >>= (λ t. kind_at t >>= (λ k. assigned_at n k.1 >>= (λ e.
+    Some (record { name = h.0.0; params = h.0.1; result = k.0; body = e.0 }, e.1))))))

@@ -1,14 +1,15 @@
 // The readers of expressions.
-ghost use Rattle.std.specs.Prelude.{◌≡◌, length, map};
+ghost use Rattle.std.specs.Prelude.{◌≡◌, length, map, IfOk};
 ghost use Rattle.rule_syntax.specs.Reading as lists;
 ghost use Rattle.rule_syntax.specs.Reading.{Gives};
 ghost use Rattle.rule_syntax.specs.ReadingExpr as reading;
 ghost use Rattle.rule_syntax.specs.Seen.{seen_expr};
+ghost use Rattle.rule_syntax.specs.Syntax as syntax;
 
-use crate::expr::{Expr, FoldKind};
+use crate::expr::{BinOp, Expr, FoldKind};
 use crate::reading::stop::Stop;
 use crate::reading::tokens::{after, binop, fold_of, is_free, known, mark, name, truth_of, word};
-use pr_value::{Boxed, CAP, Items, Mark, Symbol, Token};
+use pr_value::{Boxed, CAP, Items, Mark, Memory, Symbol, Token};
 use std::alloc::Global;
 
 /// The last level of expressions.
@@ -126,24 +127,50 @@ fn folded(
 ) -> Result<(Expr, &[Token]), Stop>
     ensures { Gives (λ x. (seen_expr x.0, x.1.now)) result (reading.folded_at (reading.expr_at levels) fold ts.now) }
 {
+    let (name, rest) = parameter(alloc, ts)?;
+    let (over, rest) = expr(alloc, levels, rest)?;
+    let (body, rest) = each(alloc, levels, rest)?;
+    Ok((fold_over(alloc, fold, name, over, body)?, rest))
+}
+
+/// What stands behind a fold's name, up to what it runs over.
+#[tactic(auto, unfolding(crate::specs::ReadingExpr::parameter_at))]
+fn parameter(alloc: Global, ts: &[Token]) -> Result<(Symbol, &[Token]), Stop>
+    ensures { Gives (λ x. (x.0, x.1.now)) result (reading.parameter_at ts.now) }
+{
     let rest = mark(Mark::OpenParen, ts)?;
     let (name, rest) = name(alloc, rest)?;
     let rest = word(b"in", rest)?;
-    let (over, rest) = expr(alloc, levels, rest)?;
-    let rest = mark(Mark::Colon, rest)?;
+    Ok((name, rest))
+}
+
+/// What stands behind what a fold runs over.
+#[cycle(expr)]
+#[tactic(auto, unfolding(crate::specs::ReadingExpr::each_at))]
+fn each(alloc: Global, levels: u64, ts: &[Token]) -> Result<(Expr, &[Token]), Stop>
+    ensures { Gives (λ x. (seen_expr x.0, x.1.now)) result (reading.each_at (reading.expr_at levels) ts.now) }
+{
+    let rest = mark(Mark::Colon, ts)?;
     let (body, rest) = expr(alloc, levels, rest)?;
     let rest = mark(Mark::CloseParen, rest)?;
-    let over = Boxed::new(alloc, over)?;
-    let body = Boxed::new(alloc, body)?;
-    Ok((
-        Expr::Fold {
-            fold,
-            name,
-            over,
-            body,
-        },
-        rest,
-    ))
+    Ok((body, rest))
+}
+
+fn fold_over(
+    alloc: Global,
+    fold: FoldKind,
+    name: Symbol,
+    over: Expr,
+    body: Expr,
+) -> Result<Expr, Memory>
+    ensures { IfOk result (λ e. seen_expr e ≡ syntax.fold fold name (seen_expr over) (seen_expr body)) }
+{
+    Ok(Expr::Fold {
+        fold,
+        name,
+        over: Boxed::new(alloc, over)?,
+        body: Boxed::new(alloc, body)?,
+    })
 }
 
 /// What stands behind the parenthesis of a binary operation.
@@ -153,12 +180,30 @@ fn binary(alloc: Global, levels: u64, ts: &[Token]) -> Result<(Expr, &[Token]), 
     ensures { Gives (λ x. (seen_expr x.0, x.1.now)) result (reading.binary_at (reading.expr_at levels) ts.now) }
 {
     let (a, rest) = expr(alloc, levels, ts)?;
-    let (op, rest) = binop(rest)?;
-    let (b, behind) = expr(alloc, levels, rest)?;
-    let rest = mark(Mark::CloseParen, behind)?;
-    let left = Boxed::new(alloc, a)?;
-    let right = Boxed::new(alloc, b)?;
-    Ok((Expr::Binary { left, op, right }, rest))
+    let ((op, b), rest) = operand(alloc, levels, rest)?;
+    Ok((joined(alloc, a, op, b)?, rest))
+}
+
+/// What stands behind the first operand.
+#[cycle(expr)]
+#[tactic(auto, unfolding(crate::specs::ReadingExpr::operand_at))]
+fn operand(alloc: Global, levels: u64, ts: &[Token]) -> Result<((BinOp, Expr), &[Token]), Stop>
+    ensures { Gives (λ x. ((x.0.0, seen_expr x.0.1), x.1.now)) result (reading.operand_at (reading.expr_at levels) ts.now) }
+{
+    let (op, rest) = binop(ts)?;
+    let (b, rest) = expr(alloc, levels, rest)?;
+    let rest = mark(Mark::CloseParen, rest)?;
+    Ok(((op, b), rest))
+}
+
+fn joined(alloc: Global, a: Expr, op: BinOp, b: Expr) -> Result<Expr, Memory>
+    ensures { IfOk result (λ e. seen_expr e ≡ syntax.binary (seen_expr a) op (seen_expr b)) }
+{
+    Ok(Expr::Binary {
+        left: Boxed::new(alloc, a)?,
+        op,
+        right: Boxed::new(alloc, b)?,
+    })
 }
 
 /// Any number of expressions, up to the closing mark.

@@ -5,10 +5,10 @@ ghost use Rattle.rule_syntax.specs.Levels.{most_levels};
 ghost use Rattle.rule_syntax.specs.Reading as lists;
 ghost use Rattle.rule_syntax.specs.Reading.{Gives};
 ghost use Rattle.rule_syntax.specs.ReadingParts as reading;
-ghost use Rattle.rule_syntax.specs.Seen.{seen_stmt, seen_body, seen_operator, seen_helper};
+ghost use Rattle.rule_syntax.specs.Seen.{seen_expr, seen_stmt, seen_body, seen_operator, seen_helper};
 ghost use Rattle.rule_syntax.specs.Syntax as syntax;
 
-use crate::expr::Stmt;
+use crate::expr::{Expr, Stmt};
 use crate::parts::{Algorithm, Body, Helper, Operator, Param};
 use crate::reading::expr::{LEVELS, expr};
 use crate::reading::lists::{Parts, closed, filled};
@@ -32,9 +32,7 @@ fn changed(alloc: Global, desc: Symbol, ts: &[Token]) -> Result<(Stmt, &[Token])
     match ts {
         [Token::Mark(Mark::Dot), rest @ ..] => {
             let (property, rest) = name(alloc, rest)?;
-            let rest = mark(Mark::Assign, rest)?;
-            let (value, rest) = expr(alloc, LEVELS, rest)?;
-            let rest = mark(Mark::Semicolon, rest)?;
+            let (value, rest) = assigned(alloc, rest)?;
             Ok((
                 Stmt::Set {
                     desc,
@@ -51,6 +49,17 @@ fn changed(alloc: Global, desc: Symbol, ts: &[Token]) -> Result<(Stmt, &[Token])
         }
         _ => Err(Stop::Bad { left: ts.len() }),
     }
+}
+
+/// What is assigned: `= expr;`
+#[tactic(auto, unfolding(crate::specs::ReadingParts::assigned_at))]
+fn assigned(alloc: Global, ts: &[Token]) -> Result<(Expr, &[Token]), Stop>
+    ensures { Gives (λ x. (seen_expr x.0, x.1.now)) result (reading.assigned_at most_levels ts.now) }
+{
+    let rest = mark(Mark::Assign, ts)?;
+    let (value, rest) = expr(alloc, LEVELS, rest)?;
+    let rest = mark(Mark::Semicolon, rest)?;
+    Ok((value, rest))
 }
 
 /// Statements up to a closing brace.
@@ -246,6 +255,17 @@ impl Parts for Params {
     ghost one_more = { λ xs x. refl };
 }
 
+/// A helper's name and parameters: `name(params)`
+#[tactic(auto, unfolding(crate::specs::ReadingParts::signature_at))]
+fn signature(alloc: Global, ts: &[Token]) -> Result<((Symbol, Items<Param>), &[Token]), Stop>
+    ensures { Gives (λ x. ((x.0.0, x.0.1), x.1.now)) result (reading.signature_at ts.now) }
+{
+    let (name, rest) = name(alloc, ts)?;
+    let rest = mark(Mark::OpenParen, rest)?;
+    let (params, rest) = closed::<Params>(alloc, Mark::CloseParen, rest)?;
+    Ok(((name, params), rest))
+}
+
 /// `helper name(params) : result = body;`
 pub struct Helpers;
 
@@ -262,14 +282,10 @@ impl Parts for Helpers {
 
     fn read(alloc: Global, ts: &[Token]) -> Result<(Helper, &[Token]), Stop> {
         let rest = word(b"helper", ts)?;
-        let (name, rest) = name(alloc, rest)?;
-        let rest = mark(Mark::OpenParen, rest)?;
-        let (params, rest) = closed::<Params>(alloc, Mark::CloseParen, rest)?;
+        let ((name, params), rest) = signature(alloc, rest)?;
         let rest = mark(Mark::Colon, rest)?;
         let (result, rest) = kind(rest)?;
-        let rest = mark(Mark::Assign, rest)?;
-        let (body, rest) = expr(alloc, LEVELS, rest)?;
-        let rest = mark(Mark::Semicolon, rest)?;
+        let (body, rest) = assigned(alloc, rest)?;
         Ok((
             Helper {
                 name,

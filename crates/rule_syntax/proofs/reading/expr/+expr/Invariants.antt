@@ -17,10 +17,16 @@ abbrev pub decreases-closed_exprs : goal.decreases-closed_exprs
 decreases-closed_exprs l = 10 * l.levels + 3
 
 abbrev pub decreases-binary : goal.decreases-binary
-decreases-binary l = 10 * l.levels + 1
+decreases-binary l = 10 * l.levels + 2
 
 abbrev pub decreases-folded : goal.decreases-folded
-decreases-folded l = 10 * l.levels + 1
+decreases-folded l = 10 * l.levels + 2
+
+abbrev pub decreases-operand : goal.decreases-operand
+decreases-operand l = 10 * l.levels + 1
+
+abbrev pub decreases-each : goal.decreases-each
+decreases-each l = 10 * l.levels + 1
 
 abbrev pub decreases-named : goal.decreases-named
 decreases-named l = 10 * l.levels + 4
