@@ -25,7 +25,7 @@ list_any-weaker a b weaker (x ∷ xs) h =
     let p = or_parts (a x) (list_any a xs) h in
     or_from (b x) (list_any b xs) (weaker x p.0) (list_any-weaker a b weaker xs p.1)
 
-list_any-map : {A B : Type 0} (test : B → Bool) (f : A → B) (xs : List A) → list_any test (map f xs) ≡ list_any (λ x. test (f x)) xs
+pub list_any-map : {A B : Type 0} (test : B → Bool) (f : A → B) (xs : List A) → list_any test (map f xs) ≡ list_any (λ x. test (f x)) xs
 list_any-map test f [] = refl
 list_any-map test f (x ∷ xs) = ap (λ b. test (f x) || b) (list_any-map test f xs)
 

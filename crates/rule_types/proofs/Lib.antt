@@ -14,11 +14,13 @@ pub mod DeclarationLaws
 pub mod DistinctLaws
 pub mod DistinctParts
 pub mod EachLaws
+mod GivenLaws
 pub mod NameLaws
 pub mod NodeLaws
 pub mod NumberLaws
 pub mod PlacedLaws
 pub mod RefusalLaws
+mod RoleLaws
 pub mod RuleCostLaws
 pub mod SideLaws
 pub mod StepLaws

@@ -67,30 +67,35 @@ impl CostForm {
     }
 
     /// An equal form.
+    #[cycle(copy)]
     pub fn copy(&self, alloc: Global) -> Result<CostForm, Memory>
         ensures { IfOk result (λ f. f ≡ self.now) }
     {
         match self {
             CostForm::Number(number) => Ok(CostForm::Number(*number)),
             CostForm::Input(place) => Ok(CostForm::Input(*place)),
-            CostForm::Sum(a, b) => Ok(CostForm::Sum(
-                boxed(alloc, a.get().copy(alloc)?)?,
-                boxed(alloc, b.get().copy(alloc)?)?,
-            )),
-            CostForm::Greater(a, b) => Ok(CostForm::Greater(
-                boxed(alloc, a.get().copy(alloc)?)?,
-                boxed(alloc, b.get().copy(alloc)?)?,
-            )),
-            CostForm::Lesser(a, b) => Ok(CostForm::Lesser(
-                boxed(alloc, a.get().copy(alloc)?)?,
-                boxed(alloc, b.get().copy(alloc)?)?,
-            )),
-            CostForm::Multiple(number, a) => Ok(CostForm::Multiple(
-                *number,
-                boxed(alloc, a.get().copy(alloc)?)?,
-            )),
+            CostForm::Sum(a, b) => {
+                Ok(CostForm::Sum(copied(alloc, a.get())?, copied(alloc, b.get())?))
+            }
+            CostForm::Greater(a, b) => {
+                Ok(CostForm::Greater(copied(alloc, a.get())?, copied(alloc, b.get())?))
+            }
+            CostForm::Lesser(a, b) => {
+                Ok(CostForm::Lesser(copied(alloc, a.get())?, copied(alloc, b.get())?))
+            }
+            CostForm::Multiple(number, a) => {
+                Ok(CostForm::Multiple(*number, copied(alloc, a.get())?))
+            }
         }
     }
+}
+
+// A copy in memory of its own.
+#[cycle(copy)]
+fn copied(alloc: Global, form: &CostForm) -> Result<Boxed<CostForm>, Memory>
+    ensures { IfOk result (λ f. f ≡ form.now) }
+{
+    boxed(alloc, form.copy(alloc)?)
 }
 
 /// The form in memory of its own.

@@ -1,6 +1,7 @@
-use Rattle.std.proofs.Common.{map, refl, arith}
+use Rattle.std.proofs.Common.{◌++◌, map, refl, ap, ◌∙◌, arith}
+use Rattle.std.proofs.lemmas.List.{take_all}
 use Rattle.rule_syntax.specs.Seen.{seen_helper}
-use Rattle.rule_types.specs.Declarations.{helper}
+use Rattle.rule_types.specs.Declarations.{helper, placed}
 use Rattle.rule_types.specs.SeenDeclarations.{seen_declaration}
 use Rattle.rule_types.proofs.PlacedLaws.{pushed-seen}
 use Rattle.rule_types.proofs.declarations.push_helpers.Goals as goal
@@ -9,3 +10,7 @@ pub loop-i-preserved : goal.loop-i-preserved
 loop-i-preserved c =
     pushed-seen seen_helper helper seen_declaration c.args.helpers.now c.loop-i.i c.index-helpers-i.result (map seen_declaration c.args.out.now.items)
     c.loop-i.out.items c.push.new.self.items _ (omega arith) c.index-helpers-i.is c.loop-i.invariant c.in_ok-push.ensures.items refl
+
+pub returns : goal.returns
+returns c =
+    c.loop-i.invariant ∙ ap (λ xs. map seen_declaration c.args.out.now.items ++ map helper (placed (map seen_helper xs))) (take_all _ _ c.loop-i-test.false)
