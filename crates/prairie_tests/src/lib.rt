@@ -2,24 +2,21 @@
 //! tables of moves that are data, and steps with one rule.
 #![tactic(auto)]
 
-mod again;
+// The definitions in specs/ are of types of these two, so that they stand here without tests, too.
 mod fragile;
-mod listed;
-mod search;
-mod toy;
 mod ways;
 
-pub use again::{begins, has_exprs, log_again};
 pub use fragile::{Breaking, Fragile};
-pub use listed::Listed;
-pub use search::Search;
-pub use toy::{Toy, term, toy_log};
-pub use ways::{Kind, Way};
+pub use ways::{Kind, Way, joined};
 
+#[cfg(test)]
+mod again;
 #[cfg(test)]
 mod base_tests;
 #[cfg(test)]
 mod derivation_tests;
+#[cfg(test)]
+mod listed;
 #[cfg(test)]
 mod memo_tests;
 #[cfg(test)]
@@ -27,4 +24,8 @@ mod moves_tests;
 #[cfg(test)]
 mod outside_tests;
 #[cfg(test)]
+mod search;
+#[cfg(test)]
 mod syntax_tests;
+#[cfg(test)]
+mod toy;

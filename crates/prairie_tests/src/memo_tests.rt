@@ -1,4 +1,4 @@
-ghost use Rattle.std.specs.Prelude.{◌≡◌};
+ghost use Rattle.std.specs.Prelude.{◌≡◌, false};
 
 use crate::again::{begins, has_exprs, log_again};
 use crate::fragile::{Breaking, Fragile};
@@ -7,6 +7,7 @@ use derivation::{Log, PushError, Reason, Terms};
 use memo::{Counts, Memo, MemoError};
 use pr_value::Memory;
 use std::alloc::Global;
+use std::process::Abort;
 
 /// The number of the line that a reason adds, or 99.
 fn pushed(alloc: Global, memo: &mut Memo<u64, Toy>, why: Reason) -> usize
@@ -25,21 +26,51 @@ fn counts(classes: usize, expressions: usize) -> Counts {
     }
 }
 
+fn toy_memo(rt: &impl Abort, alloc: Global) -> Memo<u64, Toy>
+    ensures { result.spoilt ≡ false }
+{
+    let log = toy_log(alloc).expect(rt, "memory");
+    Memo::new(alloc, log).expect(rt, "memory")
+}
+
+/// Joins the classes 1 and 2 by the rule at the right tree of a line.
+fn merge(rt: &impl Abort, alloc: Global, memo: &mut Memo<u64, Toy>, of: usize)
+    ensures { memo.new.spoilt ≡ memo.old.spoilt }
+{
+    let rule = pushed(alloc, memo, Reason::Rule { of, rule: 0 });
+    memo.join(alloc, 1, 2, rule).expect(rt, "join");
+    memo.settle(alloc).expect(rt, "settle");
+}
+
+fn merged(rt: &impl Abort, alloc: Global) -> Memo<u64, Toy>
+    ensures { result.spoilt ≡ false }
+{
+    let mut memo = toy_memo(rt, alloc);
+    let part = pushed(alloc, &mut memo, Reason::Part { of: 0, at: 0 });
+    merge(rt, alloc, &mut memo, part);
+    memo
+}
+
 #[test]
-fn a_memo_merges_what_a_rule_equates(rt: HostRuntime) {
-    let alloc = rt.alloc();
-    let log = toy_log(alloc).expect(&rt, "memory");
-    let mut memo = Memo::new(alloc, log).expect(&rt, "memory");
+fn a_memo_begins_with_a_class_for_each_node(rt: HostRuntime) {
+    let memo = toy_memo(&rt, rt.alloc());
     assert!(rt; memo.counts() == counts(4, 4), "a class for each node");
     assert!(rt; has_exprs(&memo, 1, &[1]), "one expression");
     assert!(rt; has_exprs(&memo, 2, &[2]), "and one");
-    let part = pushed(alloc, &mut memo, Reason::Part { of: 0, at: 0 });
-    let rule = pushed(alloc, &mut memo, Reason::Rule { of: part, rule: 0 });
-    memo.join(alloc, 1, 2, rule).expect(&rt, "join");
-    memo.settle(alloc).expect(&rt, "settle");
+}
+
+#[test]
+fn a_memo_merges_what_a_rule_equates(rt: HostRuntime) {
+    let memo = merged(&rt, rt.alloc());
     assert!(rt; memo.counts() == counts(3, 4), "one class fewer");
     assert!(rt; has_exprs(&memo, 1, &[1, 2]), "both");
     assert!(rt; has_exprs(&memo, 2, &[1, 2]), "by the other number");
+}
+
+#[test]
+fn a_memo_refuses_a_reason_of_no_line(rt: HostRuntime) {
+    let alloc = rt.alloc();
+    let mut memo = merged(&rt, alloc);
     let count = memo.log().count();
     let bad = memo.push(alloc, Reason::Turn { of: 99 });
     assert!(rt; bad == Err(PushError::BadReason), "no such line");
@@ -49,12 +80,7 @@ fn a_memo_merges_what_a_rule_equates(rt: HostRuntime) {
 #[test]
 fn a_memo_equates_on_a_log_that_begins_with_its_own(rt: HostRuntime) {
     let alloc = rt.alloc();
-    let log = toy_log(alloc).expect(&rt, "memory");
-    let mut memo = Memo::new(alloc, log).expect(&rt, "memory");
-    let part = pushed(alloc, &mut memo, Reason::Part { of: 0, at: 0 });
-    let rule = pushed(alloc, &mut memo, Reason::Rule { of: part, rule: 0 });
-    memo.join(alloc, 1, 2, rule).expect(&rt, "join");
-    memo.settle(alloc).expect(&rt, "settle");
+    let memo = merged(&rt, alloc);
     let mut log = log_again(alloc, memo.log()).expect(&rt, "memory");
     assert!(rt; begins(memo.log(), &log), "the memo's log, made again");
     let line = memo.equate_on(alloc, &mut log, 1, 2).expect(&rt, "equate");
@@ -87,36 +113,38 @@ fn towers_log(alloc: Global) -> Result<Log<u64, Toy>, Memory> {
     Log::new(alloc, terms, Toy, query)
 }
 
+/// The line of the query's first input, its first input and so on down.
+fn down(alloc: Global, memo: &mut Memo<u64, Toy>, levels: usize) -> usize {
+    let mut at = 0;
+    for _ in 0..levels {
+        at = pushed(alloc, memo, Reason::Part { of: at, at: 0 });
+    }
+    at
+}
+
+/// The depth of a line, or 99.
+fn depth(memo: &Memo<u64, Toy>, line: usize) -> usize {
+    if line < memo.log().count() {
+        memo.log().line(line).depth
+    } else {
+        99
+    }
+}
+
 #[test]
 fn what_is_alike_is_merged_up_four_levels(rt: HostRuntime) {
     let alloc = rt.alloc();
     let log = towers_log(alloc).expect(&rt, "memory");
     let mut memo = Memo::new(alloc, log).expect(&rt, "memory");
     assert!(rt; memo.counts() == counts(12, 12), "a class for each node");
-    let left = pushed(alloc, &mut memo, Reason::Part { of: 0, at: 0 });
-    let mut at = left;
-    for _ in 0..4 {
-        at = pushed(alloc, &mut memo, Reason::Part { of: at, at: 0 });
-    }
-    let rule = pushed(alloc, &mut memo, Reason::Rule { of: at, rule: 0 });
-    memo.join(alloc, 1, 2, rule).expect(&rt, "join");
-    memo.settle(alloc).expect(&rt, "settle");
+    let bottom = down(alloc, &mut memo, 5);
+    merge(&rt, alloc, &mut memo, bottom);
     assert!(rt; memo.counts() == counts(7, 8), "the towers are one");
     let line = memo.equate(alloc, 6, 10).expect(&rt, "equate");
-    if line < memo.log().count() {
-        assert!(rt; memo.log().line(line).depth == 1, "no deeper than the rule");
-    }
+    assert!(rt; depth(&memo, line) == 1, "no deeper than the rule");
 }
 
-#[test]
-fn a_memo_after_want_of_memory_is_spoilt(rt: HostRuntime) {
-    let alloc = rt.alloc();
-    let log = toy_log(alloc).expect(&rt, "memory");
-    let mut memo = Memo::new(alloc, log).expect(&rt, "memory");
-    assert!(rt;
-        memo.join(alloc, 1, 2, 0) == Err(MemoError::Memory),
-        "no line of these classes"
-    );
+fn check_spoilt(rt: &impl Abort, alloc: Global, memo: &mut Memo<u64, Toy>) {
     assert!(rt; memo.settle(alloc) == Err(MemoError::Spoilt), "settle");
     assert!(rt; memo.join(alloc, 1, 2, 0) == Err(MemoError::Spoilt), "join");
     assert!(rt;
@@ -127,6 +155,17 @@ fn a_memo_after_want_of_memory_is_spoilt(rt: HostRuntime) {
         memo.equate(alloc, 1, 1) == Err(MemoError::Spoilt),
         "equate"
     );
+}
+
+#[test]
+fn a_memo_after_want_of_memory_is_spoilt(rt: HostRuntime) {
+    let alloc = rt.alloc();
+    let mut memo = toy_memo(&rt, alloc);
+    assert!(rt;
+        memo.join(alloc, 1, 2, 0) == Err(MemoError::Memory),
+        "no line of these classes"
+    );
+    check_spoilt(&rt, alloc, &mut memo);
 }
 
 /// The log of a hundred towers over `1(0)`, each of a hundred nodes with a label of its own.
@@ -184,40 +223,36 @@ fn all_turned(alloc: Global, memo: &mut Memo<u64, Toy>) -> Result<usize, Memory>
     Ok(line)
 }
 
+/// Joins the class 1 and the one of `2(0)`.
+fn join_two(rt: &impl Abort, alloc: Global, memo: &mut Memo<u64, Toy>) {
+    let of = down(alloc, memo, 101);
+    let rule = pushed(alloc, memo, Reason::Rule { of, rule: 0 });
+    let two = memo.add(alloc, 2, &[0], rule).expect(rt, "add");
+    memo.join(alloc, 1, two, rule).expect(rt, "join");
+    memo.settle(alloc).expect(rt, "settle");
+}
+
+/// The two terms of a line that is there.
+fn ends(rt: &impl Abort, memo: &Memo<u64, Toy>, line: usize) -> (usize, usize) {
+    assert!(rt; line < memo.log().count(), "a line");
+    (memo.log().line(line).left, memo.log().line(line).right)
+}
+
 #[test]
 fn a_term_of_ten_thousand_nodes_is_learnt(rt: HostRuntime) {
     let alloc = rt.alloc();
     let log = wide_log(alloc).expect(&rt, "memory");
     let mut memo = Memo::new(alloc, log).expect(&rt, "memory");
     let line = all_turned(alloc, &mut memo).expect(&rt, "memory");
-    let mut bottom = 0;
-    for _ in 0..101 {
-        bottom = pushed(alloc, &mut memo, Reason::Part { of: bottom, at: 0 });
-    }
-    let rule = pushed(
-        alloc,
-        &mut memo,
-        Reason::Rule {
-            of: bottom,
-            rule: 0,
-        },
-    );
-    let two = memo.add(alloc, 2, &[0], rule).expect(&rt, "add");
-    memo.join(alloc, 1, two, rule).expect(&rt, "join");
-    memo.settle(alloc).expect(&rt, "settle");
+    join_two(&rt, alloc, &mut memo);
     assert!(rt;
         memo.counts() == counts(10_003, 10_004),
         "one class for both"
     );
-    assert!(rt; line < memo.log().count(), "the turned query");
-    let ends = (memo.log().line(line).left, memo.log().line(line).right);
-    assert!(rt; ends.0 != ends.1, "two terms");
-    let found = memo.equate(alloc, ends.0, ends.1).expect(&rt, "equate");
-    assert!(rt; found < memo.log().count(), "a line");
-    assert!(rt;
-        memo.log().line(found).depth == 1,
-        "no deeper than the rule"
-    );
+    let (left, right) = ends(&rt, &memo, line);
+    assert!(rt; left != right, "two terms");
+    let found = memo.equate(alloc, left, right).expect(&rt, "equate");
+    assert!(rt; depth(&memo, found) == 1, "no deeper than the rule");
     assert!(rt; memo.counts() == counts(10_003, 10_004), "no class more");
 }
 
@@ -236,20 +271,20 @@ fn fragile_log(alloc: Global) -> Result<Log<Fragile, Breaking>, Memory> {
     Log::new(alloc, terms, Breaking, query)
 }
 
-#[test]
-fn a_label_without_a_copy_spoils_the_memo(rt: HostRuntime) {
-    let alloc = rt.alloc();
-    let log = fragile_log(alloc).expect(&rt, "memory");
-    let mut memo = Memo::new(alloc, log).expect(&rt, "memory");
-    let part = memo
-        .push(alloc, Reason::Part { of: 0, at: 0 })
-        .expect(&rt, "part");
-    let rule = memo
-        .push(alloc, Reason::Rule { of: part, rule: 0 })
-        .expect(&rt, "rule");
-    let count = memo.log().count();
-    let added = memo.add(alloc, Fragile { value: 100 }, &[0], rule);
-    assert!(rt; added == Err(MemoError::Memory), "no copy of the label");
+fn fragile_memo(rt: &impl Abort, alloc: Global) -> Memo<Fragile, Breaking> {
+    let log = fragile_log(alloc).expect(rt, "memory");
+    Memo::new(alloc, log).expect(rt, "memory")
+}
+
+/// The line by which the query's input turns into a label without a copy.
+fn breaking(rt: &impl Abort, alloc: Global, memo: &mut Memo<Fragile, Breaking>) -> usize {
+    let part = memo.push(alloc, Reason::Part { of: 0, at: 0 });
+    let of = part.expect(rt, "part");
+    let rule = memo.push(alloc, Reason::Rule { of, rule: 0 });
+    rule.expect(rt, "rule")
+}
+
+fn check_broken(rt: &impl Abort, alloc: Global, memo: &mut Memo<Fragile, Breaking>, rule: usize) {
     assert!(rt; memo.settle(alloc) == Err(MemoError::Spoilt), "settle");
     assert!(rt;
         memo.join(alloc, 1, 2, rule) == Err(MemoError::Spoilt),
@@ -261,6 +296,17 @@ fn a_label_without_a_copy_spoils_the_memo(rt: HostRuntime) {
         memo.equate(alloc, 1, 1) == Err(MemoError::Spoilt),
         "equate"
     );
+}
+
+#[test]
+fn a_label_without_a_copy_spoils_the_memo(rt: HostRuntime) {
+    let alloc = rt.alloc();
+    let mut memo = fragile_memo(&rt, alloc);
+    let rule = breaking(&rt, alloc, &mut memo);
+    let count = memo.log().count();
+    let added = memo.add(alloc, Fragile { value: 100 }, &[0], rule);
+    assert!(rt; added == Err(MemoError::Memory), "no copy of the label");
+    check_broken(&rt, alloc, &mut memo, rule);
     assert!(rt; memo.log().count() == count, "the log has its count");
     assert!(rt;
         memo.push(alloc, Reason::Turn { of: rule }).is_ok(),

@@ -4,30 +4,31 @@ use crate::ways::{Kind, Way};
 use best_plan::{Choices, FindError, Found};
 use pr_value::{CAP, Items};
 use std::alloc::Global;
-use std::test::Fail;
+use std::process::Abort;
 
 type Row<'a> = (Kind, u64, &'a [u32]);
 
 /// The alternatives of one goal.
-fn ways(alloc: Global, rows: &[Row]) -> Result<Items<Way>, Fail> {
+fn ways(rt: &impl Abort, alloc: Global, rows: &[Row]) -> Items<Way> {
     let mut ways = Items::new(alloc);
     for (kind, from, inputs) in rows {
-        let inputs = Items::from_slice(alloc, inputs)?;
-        ways.push(Way {
+        let way = Way {
             kind: *kind,
             from: *from,
-            inputs,
-        })?;
+            inputs: Items::from_slice(alloc, inputs).expect(rt, "memory"),
+        };
+        ways.push(way).expect(rt, "memory");
     }
-    Ok(ways)
+    ways
 }
 
-fn search_of(alloc: Global, rows: &[&[Row]]) -> Result<Search, Fail> {
+fn search_of(rt: &impl Abort, alloc: Global, rows: &[&[Row]]) -> Search {
     let mut goals = Items::new(alloc);
     for row in rows {
-        goals.push(ways(alloc, row)?)?;
+        goals.push(ways(rt, alloc, row)).expect(rt, "memory");
     }
-    Ok(Search::new(alloc, Listed::new(alloc, goals)?))
+    let moves = Listed::new(alloc, goals).expect(rt, "memory");
+    Search::new(alloc, moves)
 }
 
 /// What `find` answers, and None where a condition of the call does not hold.
@@ -53,13 +54,12 @@ const CAPPED_BY_MIN: [&[Row]; 3] = [
 ];
 
 #[test]
-fn an_input_may_cost_more_than_its_goal(rt: HostRuntime) -> Result<(), Fail> {
-    let mut search = search_of(rt.alloc(), &CAPPED_BY_MIN)?;
+fn an_input_may_cost_more_than_its_goal(rt: HostRuntime) {
+    let mut search = search_of(&rt, rt.alloc(), &CAPPED_BY_MIN);
     assert!(rt; found(&mut search, 0, 7) == NOT_BELOW);
     assert!(rt; found(&mut search, 0, 8) == below(7));
     assert!(rt; found(&mut search, 2, 50) == NOT_BELOW);
     assert!(rt; found(&mut search, 2, 51) == below(50));
-    Ok(())
 }
 
 // Goal 0 costs 13 by goal 1, and 12 by goals 2 and 3; goal 4 leads nowhere.
@@ -76,8 +76,8 @@ const GROWING: [&[Row]; 5] = [
 ];
 
 #[test]
-fn limits_grow_on_one_table(rt: HostRuntime) -> Result<(), Fail> {
-    let mut search = search_of(rt.alloc(), &GROWING)?;
+fn limits_grow_on_one_table(rt: HostRuntime) {
+    let mut search = search_of(&rt, rt.alloc(), &GROWING);
     for limit in 0..13 {
         assert!(rt; found(&mut search, 0, limit) == NOT_BELOW, "under {limit}");
     }
@@ -89,22 +89,20 @@ fn limits_grow_on_one_table(rt: HostRuntime) -> Result<(), Fail> {
     assert!(rt; found(&mut search, 4, CAP + 1) == NOT_BELOW);
     assert!(rt; search.table.choice(4).is_none() && search.table.bound(4) == CAP + 1);
     assert!(rt; search.find(5, 1).is_none() && search.find(0, CAP + 2).is_none());
-    Ok(())
 }
 
 #[test]
-fn goals_are_unfolded_when_asked_for(rt: HostRuntime) -> Result<(), Fail> {
+fn goals_are_unfolded_when_asked_for(rt: HostRuntime) {
     let rows: [&[Row]; 2] = [&[(Kind::Sum, 10, &[1])], &[(Kind::Sum, 3, &[])]];
-    let mut search = search_of(rt.alloc(), &rows)?;
+    let mut search = search_of(&rt, rt.alloc(), &rows);
     assert!(rt; found(&mut search, 0, 10) == NOT_BELOW);
     assert!(rt; search.moves.unfolded(0) && !search.moves.unfolded(1));
     assert!(rt; found(&mut search, 0, 13) == NOT_BELOW && search.table.bound(0) == 13);
     assert!(rt; found(&mut search, 0, 14) == below(13));
-    Ok(())
 }
 
 #[test]
-fn costs_reach_the_cap(rt: HostRuntime) -> Result<(), Fail> {
+fn costs_reach_the_cap(rt: HostRuntime) {
     let rows: [&[Row]; 6] = [
         &[(Kind::Sum, 7, &[4]), (Kind::Product, 0, &[4])],
         &[(Kind::Product, 0, &[2, 3])],
@@ -113,42 +111,47 @@ fn costs_reach_the_cap(rt: HostRuntime) -> Result<(), Fail> {
         &[(Kind::Least, 2, &[5, 5])],
         &[],
     ];
-    let mut search = search_of(rt.alloc(), &rows)?;
+    let mut search = search_of(&rt, rt.alloc(), &rows);
     assert!(rt; found(&mut search, 0, CAP + 1) == NOT_BELOW && search.table.bound(0) == CAP + 1);
     assert!(rt; found(&mut search, 3, CAP) == NOT_BELOW && search.table.bound(3) == CAP);
     assert!(rt; found(&mut search, 3, CAP + 1) == below(CAP));
     assert!(rt; found(&mut search, 1, 1) == below(0));
     assert!(rt; found(&mut search, 2, CAP + 1) == below(CAP));
     assert!(rt; search.table.choice(2) == Some(0));
-    Ok(())
 }
 
-#[test]
-fn goals_may_have_many_alternatives(rt: HostRuntime) -> Result<(), Fail> {
-    let alloc = rt.alloc();
+/// Three hundred alternatives over the goals 1 and 2, of which one is cheap.
+fn many_ways(rt: &impl Abort, alloc: Global) -> Items<Way> {
     let mut many = Items::new(alloc);
     for k in 0..300 {
-        let inputs = Items::from_slice(alloc, &[1, 2])?;
-        let from = if k == 211 { 4 } else { 1000 - k };
-        many.push(Way {
+        let way = Way {
             kind: Kind::Sum,
-            from,
-            inputs,
-        })?;
+            from: if k == 211 { 4 } else { 1000 - k },
+            inputs: Items::from_slice(alloc, &[1, 2]).expect(rt, "memory"),
+        };
+        many.push(way).expect(rt, "memory");
     }
-    let mut goals = Items::new(alloc);
-    goals.push(many)?;
-    goals.push(ways(alloc, &[(Kind::Sum, 20, &[])])?)?;
-    goals.push(ways(alloc, &[(Kind::Sum, 30, &[]), (Kind::Sum, 31, &[])])?)?;
-    let mut search = Search::new(alloc, Listed::new(alloc, goals)?);
-    assert!(rt; found(&mut search, 0, 54) == NOT_BELOW);
-    assert!(rt; found(&mut search, 0, 55) == below(54) && search.table.choice(0) == Some(211));
-    Ok(())
+    many
 }
 
 #[test]
-fn a_search_goes_on_after_goals_full(rt: HostRuntime) -> Result<(), Fail> {
-    let mut search = search_of(rt.alloc(), &GROWING)?;
+fn goals_may_have_many_alternatives(rt: HostRuntime) {
+    let alloc = rt.alloc();
+    let mut goals = Items::new(alloc);
+    goals.push(many_ways(&rt, alloc)).expect(&rt, "memory");
+    let one = ways(&rt, alloc, &[(Kind::Sum, 20, &[])]);
+    goals.push(one).expect(&rt, "memory");
+    let two = ways(&rt, alloc, &[(Kind::Sum, 30, &[]), (Kind::Sum, 31, &[])]);
+    goals.push(two).expect(&rt, "memory");
+    let moves = Listed::new(alloc, goals).expect(&rt, "memory");
+    let mut search = Search::new(alloc, moves);
+    assert!(rt; found(&mut search, 0, 54) == NOT_BELOW);
+    assert!(rt; found(&mut search, 0, 55) == below(54) && search.table.choice(0) == Some(211));
+}
+
+#[test]
+fn a_search_goes_on_after_goals_full(rt: HostRuntime) {
+    let mut search = search_of(&rt, rt.alloc(), &GROWING);
     search.moves.left = 3;
     assert!(rt; search.find(0, CAP + 1) == Some(Err(FindError::GoalsFull)));
     assert!(rt; search.moves.left == 0 && search.table.choice(0).is_none());
@@ -160,38 +163,54 @@ fn a_search_goes_on_after_goals_full(rt: HostRuntime) -> Result<(), Fail> {
     search.moves.left = 0;
     assert!(rt; found(&mut search, 0, CAP + 1) == below(12));
     assert!(rt; search.find(1, 5) == Some(Ok(Found::Below(3))));
-    Ok(())
+}
+
+/// Appends the goals of two sets of alternatives.
+fn push_two(rt: &impl Abort, alloc: Global, goals: &mut Items<Items<Way>>, rows: &[&[Row]; 2]) {
+    for row in rows {
+        goals.push(ways(rt, alloc, row)).expect(rt, "memory");
+    }
 }
 
 /// Two goals a level, each with a way by each goal of the level below.
-fn diamond(alloc: Global) -> Result<Listed, Fail> {
+fn diamond(rt: &impl Abort, alloc: Global) -> Listed {
     let mut goals = Items::new(alloc);
     for level in 0..17 {
         let left = 2 * level + 2;
         let right = 2 * level + 3;
-        goals.push(ways(alloc, &[(Kind::Sum, 1, &[left]), (Kind::Sum, 2, &[right])])?)?;
-        goals.push(ways(alloc, &[(Kind::Sum, 3, &[left]), (Kind::Sum, 1, &[right])])?)?;
+        let rows: [&[Row]; 2] = [
+            &[(Kind::Sum, 1, &[left]), (Kind::Sum, 2, &[right])],
+            &[(Kind::Sum, 3, &[left]), (Kind::Sum, 1, &[right])],
+        ];
+        push_two(rt, alloc, &mut goals, &rows);
     }
-    goals.push(ways(alloc, &[(Kind::Sum, 5, &[]), (Kind::Sum, 4, &[])])?)?;
-    goals.push(ways(alloc, &[(Kind::Sum, 9, &[]), (Kind::Sum, 9, &[])])?)?;
-    Ok(Listed::new(alloc, goals)?)
+    let rows: [&[Row]; 2] = [
+        &[(Kind::Sum, 5, &[]), (Kind::Sum, 4, &[])],
+        &[(Kind::Sum, 9, &[]), (Kind::Sum, 9, &[])],
+    ];
+    push_two(rt, alloc, &mut goals, &rows);
+    Listed::new(alloc, goals).expect(rt, "memory")
 }
 
 #[test]
-fn each_goal_is_solved_once(rt: HostRuntime) -> Result<(), Fail> {
+fn each_goal_is_solved_once(rt: HostRuntime) {
     let alloc = rt.alloc();
-    let mut moves = diamond(alloc)?;
-    moves.unfold_all()?;
+    let mut moves = diamond(&rt, alloc);
+    moves.unfold_all().expect(&rt, "unfold");
     let mut search = Search::new(alloc, moves);
     assert!(rt; search.moves.goals() == 36);
     assert!(rt; search.solve(0) == Some(21) && search.moves.asked.get() == 70);
     assert!(rt; search.solve(1) == Some(23) && search.moves.asked.get() == 72);
     assert!(rt; search.solve(0) == Some(21) && search.moves.asked.get() == 72);
     assert!(rt; found(&mut search, 0, CAP + 1) == below(21) && search.moves.asked.get() == 72);
-    let mut lazy = Search::new(alloc, diamond(alloc)?);
+}
+
+#[test]
+fn few_goals_are_asked_for_when_unfolded_late(rt: HostRuntime) {
+    let alloc = rt.alloc();
+    let mut lazy = Search::new(alloc, diamond(&rt, alloc));
     assert!(rt; lazy.solve(0).is_none());
     assert!(rt; found(&mut lazy, 0, CAP + 1) == below(21));
     let asked = lazy.moves.asked.get();
     assert!(rt; asked < 10_000, "{asked} calls");
-    Ok(())
 }

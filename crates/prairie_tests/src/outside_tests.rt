@@ -3,7 +3,6 @@ use pr_outside::{
 };
 use std::io;
 use std::io::{Read, Write};
-use std::test::Fail;
 
 /// Gives one byte at a time, counting up from 0, and so many in all.
 #[derive(Drop)]
@@ -73,18 +72,22 @@ fn writers_may_take_a_byte_at_a_time(rt: HostRuntime) {
 }
 
 #[test]
-fn what_is_sure_gives_and_takes(rt: HostRuntime) -> Result<(), Fail> {
+fn what_is_sure_gives(rt: HostRuntime) {
     let alloc = rt.alloc();
     let mut shelf = SureShelf::new(alloc);
-    let name = Name::new(alloc, "rules")?;
-    shelf.hold(Name::new(alloc, "rules")?, Bytes::new(alloc, b"text")?)?;
-    assert_eq!(rt;
-        shelf.fetch(alloc, &name, 4)?.as_slice(),
-        b"text".as_slice()
-    );
+    let name = Name::new(alloc, "rules").expect(&rt, "memory");
+    let bytes = Bytes::new(alloc, b"text").expect(&rt, "memory");
+    shelf.hold(name, bytes).expect(&rt, "memory");
+    let name = Name::new(alloc, "rules").expect(&rt, "memory");
+    let fetched = shelf.fetch(alloc, &name, 4).expect(&rt, "fetch");
+    assert_eq!(rt; fetched.as_slice(), b"text".as_slice());
+}
+
+#[test]
+fn what_is_sure_takes(rt: HostRuntime) {
+    let alloc = rt.alloc();
     let mut sink = SureSink::new(alloc);
-    sink.put(alloc, b"a ")?;
-    sink.put(alloc, b"line\n")?;
+    sink.put(alloc, b"a ").expect(&rt, "put");
+    sink.put(alloc, b"line\n").expect(&rt, "put");
     assert_eq!(rt; sink.bytes(), b"a line\n".as_slice());
-    Ok(())
 }
