@@ -15,28 +15,6 @@ use pr_value::Text;
 use query_tree::{TreeLabel, TreeSteps, add_tree};
 use std::alloc::Global;
 
-/// The T-rules as steps, copied once more.
-fn steps_of(alloc: Global, under: &Under<'_>) -> Result<TreeSteps, Trouble>
-    requires classes { under.now.classes.now ≡ classes_of (seen_rules under.now.accepted.now.rules) }
-{
-    let steps = TreeSteps::new(alloc, under.accepted, under.classes, under.catalog)?;
-    Ok(steps.copy(alloc)?)
-}
-
-/// The term of what the steps make of a term by the rule of that number, if anything.
-fn step_at(
-    alloc: Global,
-    steps: &TreeSteps,
-    number: usize,
-    terms: &mut Terms<TreeLabel>,
-    node: usize,
-) -> Result<Option<usize>, Trouble> {
-    if node >= terms.count() {
-        return Ok(None);
-    }
-    Ok(steps.step(alloc, number, terms, node)?)
-}
-
 /// The term of what the T-rule of that number makes of the tree's term, if anything.
 pub fn stepped_term(
     alloc: Global,
@@ -50,32 +28,93 @@ pub fn stepped_term(
         (seen_tree tree.now) }
 {
     let node = add_tree(alloc, under.accepted, under.classes, tree, terms)?;
-    let steps = steps_of(alloc, under)?;
+    let steps = TreeSteps::new(alloc, under.accepted, under.classes, under.catalog)?;
     step_at(alloc, &steps, number, terms, node)
 }
 
-/// A memo of the tree, whose classes have the numbers of the tree's terms.
-fn memo_of(
+/// The term of what a copy of the steps makes of a term by the rule of that number, if anything.
+fn step_at<L: Label + Drop, S: Steps<L> + Drop>(
+    alloc: Global,
+    steps: &S,
+    number: usize,
+    terms: &mut Terms<L>,
+    node: usize,
+) -> Result<Option<usize>, Trouble> {
+    if node >= terms.count() {
+        return Ok(None);
+    }
+    let copy = steps.copy(alloc)?;
+    Ok(copy.step(alloc, number, terms, node)?)
+}
+
+/// The counts of a memo of the tree, before and after what the T-rule of that number makes of it,
+/// over parts of the tree, is of the root's class, and the depth of a line that equates the two.
+pub fn push_merged(
     alloc: Global,
     under: &Under<'_>,
+    number: usize,
     tree: &Tree,
-) -> Result<Memo<TreeLabel, TreeSteps>, Trouble>
+    out: &mut Text,
+) -> Result<(), Trouble>
+    requires classes { under.now.classes.now ≡ classes_of (seen_rules under.now.accepted.now.rules) }
+    requires tree { IsTree (seen_rules under.now.accepted.now.rules) under.now.catalog.now
+        (seen_tree tree.now) }
+{
+    let steps = TreeSteps::new(alloc, under.accepted, under.classes, under.catalog)?;
+    push_by(alloc, under, &steps, number, tree, out)
+}
+
+/// The same of a memo by a copy of the steps.
+fn push_by<S: Steps<TreeLabel> + Drop>(
+    alloc: Global,
+    under: &Under<'_>,
+    steps: &S,
+    number: usize,
+    tree: &Tree,
+    out: &mut Text,
+) -> Result<(), Trouble>
     requires classes { under.now.classes.now ≡ classes_of (seen_rules under.now.accepted.now.rules) }
     requires tree { IsTree (seen_rules under.now.accepted.now.rules) under.now.catalog.now
         (seen_tree tree.now) }
 {
     let mut terms = Terms::new(alloc);
     let query = add_tree(alloc, under.accepted, under.classes, tree, &mut terms)?;
+    push_in_memo(alloc, terms, steps, query, number, out)
+}
+
+/// The same of a memo of the query's term.
+fn push_in_memo<L: Label + Drop, S: Steps<L> + Drop>(
+    alloc: Global,
+    terms: Terms<L>,
+    steps: &S,
+    query: usize,
+    number: usize,
+    out: &mut Text,
+) -> Result<(), Trouble> {
+    let log = log_of(alloc, terms, steps, query)?;
+    let mut memo = Memo::new(alloc, log)?;
+    push_before_and_after(alloc, &mut memo, number, out)
+}
+
+/// A log of the query's term, without lines, by a copy of the steps.
+fn log_of<L: Label + Drop, S: Steps<L> + Drop>(
+    alloc: Global,
+    terms: Terms<L>,
+    steps: &S,
+    query: usize,
+) -> Result<Log<L, S>, Trouble> {
     if query >= terms.count() {
         return Err(Trouble::Memory);
     }
-    let steps = steps_of(alloc, under)?;
-    let log = Log::new(alloc, terms, steps, query)?;
-    Ok(Memo::new(alloc, log)?)
+    let copy = steps.copy(alloc)?;
+    Ok(Log::new(alloc, terms, copy, query)?)
 }
 
 /// The term at the right of a line.
-fn right_term(memo: &Memo<TreeLabel, TreeSteps>, line: usize) -> Option<(usize, &Term<TreeLabel>)> {
+fn right_term<L: Label + Drop, S: Steps<L>>(
+    memo: &Memo<L, S>,
+    line: usize,
+) -> Option<(usize, &Term<L>)> {
     let log = memo.log();
     if line >= log.count() {
         return None;
@@ -92,26 +131,9 @@ fn push_counts(alloc: Global, counts: Counts, out: &mut Text) -> Result<(), Trou
     Ok(())
 }
 
-/// The counts of a memo of the tree, before and after what the T-rule of that number makes of it,
-/// over parts of the tree, is of the root's class, and the depth of a line that equates the two.
-pub fn push_merged(
+fn push_before_and_after<L: Label + Drop, S: Steps<L>>(
     alloc: Global,
-    under: &Under<'_>,
-    number: usize,
-    tree: &Tree,
-    out: &mut Text,
-) -> Result<(), Trouble>
-    requires classes { under.now.classes.now ≡ classes_of (seen_rules under.now.accepted.now.rules) }
-    requires tree { IsTree (seen_rules under.now.accepted.now.rules) under.now.catalog.now
-        (seen_tree tree.now) }
-{
-    let mut memo = memo_of(alloc, under, tree)?;
-    push_before_and_after(alloc, &mut memo, number, out)
-}
-
-fn push_before_and_after(
-    alloc: Global,
-    memo: &mut Memo<TreeLabel, TreeSteps>,
+    memo: &mut Memo<L, S>,
     number: usize,
     out: &mut Text,
 ) -> Result<(), Trouble> {
@@ -126,9 +148,9 @@ fn push_before_and_after(
 }
 
 /// The line of what the T-rule of that number makes of the query, if anything.
-fn rule_line(
+fn rule_line<L: Label + Drop, S: Steps<L>>(
     alloc: Global,
-    memo: &mut Memo<TreeLabel, TreeSteps>,
+    memo: &mut Memo<L, S>,
     number: usize,
 ) -> Result<Option<usize>, Trouble> {
     let rule = Reason::Rule {
@@ -142,9 +164,9 @@ fn rule_line(
     }
 }
 
-fn push_after(
+fn push_after<L: Label + Drop, S: Steps<L>>(
     alloc: Global,
-    memo: &mut Memo<TreeLabel, TreeSteps>,
+    memo: &mut Memo<L, S>,
     line: usize,
     out: &mut Text,
 ) -> Result<(), Trouble> {
@@ -153,9 +175,9 @@ fn push_after(
     push_depth(alloc, memo, equal, out)
 }
 
-fn push_depth(
+fn push_depth<L: Label + Drop, S: Steps<L>>(
     alloc: Global,
-    memo: &Memo<TreeLabel, TreeSteps>,
+    memo: &Memo<L, S>,
     line: usize,
     out: &mut Text,
 ) -> Result<(), Trouble> {
@@ -169,20 +191,30 @@ fn push_depth(
 }
 
 /// Makes what a line has at its right, over parts of the query, one with the query.
-fn merge(
+fn merge<L: Label + Drop, S: Steps<L>>(
     alloc: Global,
-    memo: &mut Memo<TreeLabel, TreeSteps>,
+    memo: &mut Memo<L, S>,
     line: usize,
 ) -> Result<usize, Trouble> {
     let root = memo.log().query();
+    let (right, class) = add_right(alloc, memo, line)?;
+    memo.join(alloc, root, class, line)?;
+    memo.settle(alloc)?;
+    let equal = memo.equate(alloc, root, right)?;
+    Ok(equal)
+}
+
+/// The term at the right of a line, and the class that it is added to.
+fn add_right<L: Label + Drop, S: Steps<L>>(
+    alloc: Global,
+    memo: &mut Memo<L, S>,
+    line: usize,
+) -> Result<(usize, usize), Trouble> {
     let Some((right, term)) = right_term(memo, line) else {
         return Err(Trouble::Misshapen("a line of the memo"));
     };
     let label = term.label.copy(alloc)?;
     let inputs = Vec::from_slice(alloc, term.inputs.as_slice())?;
     let class = memo.add(alloc, label, inputs.as_slice(), line)?;
-    memo.join(alloc, root, class, line)?;
-    memo.settle(alloc)?;
-    let equal = memo.equate(alloc, root, right)?;
-    Ok(equal)
+    Ok((right, class))
 }

@@ -3,7 +3,7 @@ use crate::members::{array, number, said_string, string};
 use crate::trouble::Trouble;
 use descriptor_types::{Desc, Layout};
 use plan_form::Plan;
-use pr_value::{Items, Symbol};
+use pr_value::{Items, Symbol, Value};
 use rule_syntax::IRule;
 use rule_types::Accepted;
 use serde_json::Value as Json;
@@ -31,22 +31,28 @@ fn node_of(
     plans: &mut Vec<Plan>,
 ) -> Result<Plan, Trouble> {
     if let Some(json) = node.get("file") {
-        let name = Symbol::new(alloc, string(json, "file")?.as_bytes())?;
-        return Ok(Plan::File { name });
+        return file_of(alloc, json);
     }
     let name = said_string(node, node, "rule")?;
     let rule = rule_at(accepted.rules.irules.as_slice(), name);
     let desc = desc_of(alloc, accepted.layout(), node)?;
-    let inputs = match node.get("inputs") {
+    let inputs = inputs_of(alloc, node, plans)?;
+    Ok(Plan::Alg { rule, desc, inputs })
+}
+
+fn file_of(alloc: Global, json: &Json) -> Result<Plan, Trouble> {
+    let name = Symbol::new(alloc, string(json, "file")?.as_bytes())?;
+    Ok(Plan::File { name })
+}
+
+/// As many of the last plans as the node says, or else the last one.
+fn inputs_of(alloc: Global, node: &Json, plans: &mut Vec<Plan>) -> Result<Items<Plan>, Trouble> {
+    let count = match node.get("inputs") {
         Some(json) => number(json, "inputs")?,
         None => 1,
     };
-    let inputs = last(alloc, plans, inputs)?;
-    Ok(Plan::Alg {
-        rule,
-        desc,
-        inputs: Items::from_vec(inputs),
-    })
+    let inputs = last(alloc, plans, count)?;
+    Ok(Items::from_vec(inputs))
 }
 
 /// The place of the rule of that name, past the last one where there is none.
@@ -62,26 +68,34 @@ fn rule_at(rules: &[IRule], name: &str) -> usize {
 /// The values that the node sets, and the defaults of the other properties.
 fn desc_of(alloc: Global, layout: &Layout, node: &Json) -> Result<Desc, Trouble> {
     let mut desc = Desc::plain(alloc, layout)?;
-    let Some(json) = node.get("set") else {
-        return Ok(desc);
-    };
+    if let Some(json) = node.get("set") {
+        set_all(alloc, layout, json, &mut desc)?;
+    }
+    Ok(desc)
+}
+
+fn set_all(alloc: Global, layout: &Layout, json: &Json, desc: &mut Desc) -> Result<(), Trouble> {
     let Some(members) = json.as_object() else {
         return Err(Trouble::Misshapen("set"));
     };
     for (name, member) in members.iter() {
         let name = Symbol::new(alloc, name.as_bytes())?;
-        let value = match value_of(alloc, member) {
-            Ok(value) => value,
-            Err(PartError::Memory) => return Err(Trouble::Memory),
-            Err(PartError::Misshapen) => return Err(Trouble::Misshapen("a value")),
-        };
+        let value = said_value(alloc, member)?;
         if let Some(place) = layout.find(&name) {
             if place < desc.count() {
                 desc.set(place, value);
             }
         }
     }
-    Ok(desc)
+    Ok(())
+}
+
+fn said_value(alloc: Global, json: &Json) -> Result<Value, Trouble> {
+    match value_of(alloc, json) {
+        Ok(value) => Ok(value),
+        Err(PartError::Memory) => Err(Trouble::Memory),
+        Err(PartError::Misshapen) => Err(Trouble::Misshapen("a value")),
+    }
 }
 
 /// So many plans from the end, in their order.

@@ -21,26 +21,50 @@ mod values;
 use report::Report;
 use serde_json::Value as Json;
 use std::alloc::Global;
+use std::env::Env;
+use std::rt::Files;
 use std::{env, fs};
 use texts::Texts;
 use trouble::Trouble;
 
 fn main(rt: HostRuntime) -> Result<(), Trouble> {
-    let alloc = rt.alloc();
-    let mut texts = Texts::new(alloc);
-    let mut report = Report::new(alloc);
-    for name in env::args(&rt)?.skip(1) {
-        let text = fs::read_to_string(&rt, name.as_str())?;
-        let file = Json::from_str(alloc, text.as_str())?;
-        texts.learn(alloc, &file)?;
-        tables(alloc, &file, &texts, &mut report)?;
-    }
+    let report = report_of(&rt)?;
     print!(rt; "{}", report.lines.as_str())?;
     println!(rt;
         "{} rows came out as expected, {} otherwise",
         report.right, report.wrong
     )?;
     Ok(())
+}
+
+/// What the tables of the files come to that the words name.
+fn report_of<R: Env + Files + AllocGlobal>(rt: &R) -> Result<Report, Trouble> {
+    let alloc = rt.alloc();
+    let mut texts = Texts::new(alloc);
+    let mut report = Report::new(alloc);
+    for name in env::args(rt)?.skip(1) {
+        run_file(rt, name.as_str(), &mut texts, &mut report)?;
+    }
+    Ok(report)
+}
+
+/// Takes the texts of a file, and runs its tables.
+fn run_file<R: Files + AllocGlobal>(
+    rt: &R,
+    name: &str,
+    texts: &mut Texts,
+    report: &mut Report,
+) -> Result<(), Trouble> {
+    let alloc = rt.alloc();
+    let file = json_in(rt, name)?;
+    texts.learn(alloc, &file)?;
+    tables(alloc, &file, texts, report)
+}
+
+fn json_in<R: Files + AllocGlobal>(rt: &R, name: &str) -> Result<Json, Trouble> {
+    let text = fs::read_to_string(rt, name)?;
+    let json = Json::from_str(rt.alloc(), text.as_str())?;
+    Ok(json)
 }
 
 /// Runs the tables of a file, by their kinds.

@@ -4,6 +4,7 @@ use crate::members::{array, items, said_string, string};
 use crate::report::Report;
 use crate::texts::Texts;
 use crate::trouble::Trouble;
+use pr_value::Tokens;
 use rule_lex::{LexError, tokens};
 use rule_syntax::{SyntaxError, read_query, read_rules};
 use serde_json::Value as Json;
@@ -18,16 +19,31 @@ pub fn read_table(
     let asked = Asked::of(table)?;
     let frame = Frame::of(alloc, table, texts)?;
     for row in items(table, "rows") {
-        let text = frame.around(alloc, texts.text(alloc, row)?.as_str())?;
-        match table.get("words") {
-            Some(words) => {
-                for word in array(words) {
-                    let word = string(word, "words")?;
-                    read_row(alloc, &asked, text.as_str(), word, report)?;
-                }
-            }
-            None => read_row(alloc, &asked, text.as_str(), "", report)?,
-        }
+        let text = framed(alloc, &frame, row, texts)?;
+        read_words(alloc, &asked, text.as_str(), table, report)?;
+    }
+    Ok(())
+}
+
+fn framed(alloc: Global, frame: &Frame, row: &Json, texts: &Texts) -> Result<String, Trouble> {
+    let text = texts.text(alloc, row)?;
+    frame.around(alloc, text.as_str())
+}
+
+/// Reads the text with each of the table's words, or without one.
+fn read_words(
+    alloc: Global,
+    asked: &Asked<'_>,
+    text: &str,
+    table: &Json,
+    report: &mut Report,
+) -> Result<(), Trouble> {
+    let Some(words) = table.get("words") else {
+        return read_row(alloc, asked, text, "", report);
+    };
+    for word in array(words) {
+        let word = string(word, "words")?;
+        read_row(alloc, asked, text, word, report)?;
     }
     Ok(())
 }
@@ -67,14 +83,20 @@ fn read_row(
     report: &mut Report,
 ) -> Result<(), Trouble> {
     let (text, at) = with_word(alloc, text, word)?;
-    let came = reading(alloc, asked.is_query, text.as_str())?;
+    read_text(alloc, asked, text.as_str(), at, report)
+}
+
+/// Reads a text, which is refused at this offset if it is.
+fn read_text(
+    alloc: Global,
+    asked: &Asked<'_>,
+    text: &str,
+    at: usize,
+    report: &mut Report,
+) -> Result<(), Trouble> {
+    let came = reading(alloc, asked.is_query, text)?;
     let wanted = asked.wanted(alloc, at)?;
-    report.row(
-        asked.table,
-        text.as_str(),
-        wanted.as_bytes(),
-        came.as_bytes(),
-    )
+    report.row(asked.table, text, wanted.as_bytes(), came.as_bytes())
 }
 
 /// What stands around each text of a table.
@@ -123,22 +145,28 @@ fn with_word(alloc: Global, text: &str, word: &str) -> Result<(String, usize), T
 
 /// What reading a text comes to: `read`, or a refusal with its offset.
 fn reading(alloc: Global, is_query: bool, text: &str) -> Result<String, Trouble> {
-    let ts = match tokens(alloc, text.as_bytes()) {
-        Ok(ts) => ts,
-        Err(error) => return lex_text(alloc, error),
-    };
-    let read = if is_query {
-        read_query(alloc, &ts).map(|_| ())
-    } else {
-        read_rules(alloc, &ts).map(|_| ())
-    };
-    match read {
-        Ok(()) => {
+    match tokens(alloc, text.as_bytes()) {
+        Ok(ts) => reading_of(alloc, is_query, &ts),
+        Err(error) => lex_text(alloc, error),
+    }
+}
+
+fn reading_of(alloc: Global, is_query: bool, ts: &Tokens) -> Result<String, Trouble> {
+    match syntax_error(alloc, is_query, ts) {
+        Some(error) => syntax_text(alloc, error),
+        None => {
             let out = String::from_str(alloc, "read")?;
             Ok(out)
         }
-        Err(error) => syntax_text(alloc, error),
     }
+}
+
+/// Why the tokens are refused, if they are.
+fn syntax_error(alloc: Global, is_query: bool, ts: &Tokens) -> Option<SyntaxError> {
+    if is_query {
+        return read_query(alloc, ts).err();
+    }
+    read_rules(alloc, ts).err()
 }
 
 fn lex_text(alloc: Global, error: LexError) -> Result<String, Trouble> {

@@ -1,4 +1,9 @@
 // Rows of rule sets with the classes of their properties and the rules of their operators.
+ghost use Rattle.std.specs.Prelude.{◌≡◌, ◌<◌, length};
+ghost use Rattle.enforcer_find.specs.Enforcers.{operator_rules};
+ghost use Rattle.property_classes.specs.Classes.{classes_of};
+ghost use Rattle.rule_syntax.specs.SeenRules.{seen_rules};
+
 use crate::members::{items, said_string};
 use crate::prints::rules_of;
 use crate::report::Report;
@@ -19,14 +24,28 @@ pub fn role_table(
 ) -> Result<(), Trouble> {
     let name = said_string(table, table, "table")?;
     for row in items(table, "rows") {
-        let row_name = said_string(row, row, "row")?;
-        let text = text_of(alloc, row, "rules", texts)?;
-        let wanted = text_of(alloc, row, "answer", texts)?;
-        let rules = rules_of(alloc, text.as_bytes())?;
-        let came = told(alloc, &rules)?;
-        report.row(name, row_name, wanted.as_bytes(), came.as_slice())?;
+        role_row(alloc, row, name, texts, report)?;
     }
     Ok(())
+}
+
+fn role_row(
+    alloc: Global,
+    row: &Json,
+    table: &str,
+    texts: &Texts,
+    report: &mut Report,
+) -> Result<(), Trouble> {
+    let name = said_string(row, row, "row")?;
+    let text = text_of(alloc, row, "rules", texts)?;
+    let wanted = text_of(alloc, row, "answer", texts)?;
+    let came = roles_of(alloc, text.as_bytes())?;
+    report.row(table, name, wanted.as_bytes(), came.as_slice())
+}
+
+fn roles_of(alloc: Global, text: &[u8]) -> Result<Text, Trouble> {
+    let rules = rules_of(alloc, text)?;
+    told(alloc, &rules)
 }
 
 /// A line for each property and each operator.
@@ -40,21 +59,35 @@ fn told(alloc: Global, rules: &Rules) -> Result<Text, Trouble> {
 /// The name of each property with its class, and whether it is shared, seen and physical.
 fn tell_classes(alloc: Global, rules: &Rules, out: &mut Text) -> Result<(), Trouble> {
     let classes = Classes::of(alloc, rules)?;
+    tell_all_classes(rules, &classes, out)
+}
+
+fn tell_all_classes(rules: &Rules, classes: &Classes, out: &mut Text) -> Result<(), Trouble>
+    requires { classes.now ≡ classes_of (seen_rules rules.now) }
+{
     for (place, property) in rules.properties.as_slice().iter().enumerate() {
         out.push_bytes(b"property ")?;
         out.push_bytes(property.name.as_slice())?;
-        out.push_bytes(class_name(classes.class_of(place)))?;
-        if classes.is_shared(place) {
-            out.push_bytes(b" shared")?;
-        }
-        if classes.seen().on(place) {
-            out.push_bytes(b" seen")?;
-        }
-        if classes.physical().on(place) {
-            out.push_bytes(b" asked")?;
-        }
-        out.push_bytes(b"\n")?;
+        tell_class(classes, place, out)?;
     }
+    Ok(())
+}
+
+/// The class of the property at this place, and whether it is shared, seen and physical.
+fn tell_class(classes: &Classes, place: usize, out: &mut Text) -> Result<(), Trouble>
+    requires { place < length classes.now }
+{
+    out.push_bytes(class_name(classes.class_of(place)))?;
+    if classes.is_shared(place) {
+        out.push_bytes(b" shared")?;
+    }
+    if classes.seen().on(place) {
+        out.push_bytes(b" seen")?;
+    }
+    if classes.physical().on(place) {
+        out.push_bytes(b" asked")?;
+    }
+    out.push_bytes(b"\n")?;
     Ok(())
 }
 
@@ -70,6 +103,12 @@ fn class_name(class: PropertyClass) -> &'static [u8] {
 /// The name of each operator with its rules to `Null`, and then with those to algorithms.
 fn tell_operators(alloc: Global, rules: &Rules, out: &mut Text) -> Result<(), Trouble> {
     let enforcers = Enforcers::of(alloc, rules)?;
+    tell_all_operators(rules, &enforcers, out)
+}
+
+fn tell_all_operators(rules: &Rules, enforcers: &Enforcers, out: &mut Text) -> Result<(), Trouble>
+    requires { enforcers.now ≡ operator_rules (seen_rules rules.now) }
+{
     let irules = rules.irules.as_slice();
     for (place, operator) in rules.operators.as_slice().iter().enumerate() {
         if enforcers.is_enforcer(place) {
@@ -78,11 +117,24 @@ fn tell_operators(alloc: Global, rules: &Rules, out: &mut Text) -> Result<(), Tr
             out.push_bytes(b"operator ")?;
         }
         out.push_bytes(operator.name.as_slice())?;
-        tell_rules(irules, enforcers.null_rules(place), out)?;
-        out.push_bytes(b" |")?;
-        tell_rules(irules, enforcers.algorithms(place), out)?;
-        out.push_bytes(b"\n")?;
+        tell_operator_rules(irules, enforcers, place, out)?;
     }
+    Ok(())
+}
+
+/// The rules to `Null` of the operator at this place, and then those to algorithms.
+fn tell_operator_rules(
+    irules: &[IRule],
+    enforcers: &Enforcers,
+    place: usize,
+    out: &mut Text,
+) -> Result<(), Trouble>
+    requires { place < length enforcers.now }
+{
+    tell_rules(irules, enforcers.null_rules(place), out)?;
+    out.push_bytes(b" |")?;
+    tell_rules(irules, enforcers.algorithms(place), out)?;
+    out.push_bytes(b"\n")?;
     Ok(())
 }
 

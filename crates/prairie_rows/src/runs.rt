@@ -23,21 +23,38 @@ pub fn run_table(
     };
     for (i, row) in items(table, "rows").iter().enumerate() {
         let row_name = row_name(alloc, row, i)?;
-        let wanted = Wanted::of(alloc, row, table, texts)?;
-        let came = came(alloc, row, table, texts)?;
-        let came = wanted.part_of(came.as_slice());
-        report.row(name, row_name.as_str(), wanted.line.as_slice(), came)?;
+        run_row(alloc, row, table, texts, name, row_name.as_str(), report)?;
     }
     Ok(())
 }
 
+fn run_row(
+    alloc: Global,
+    row: &Json,
+    table: &Json,
+    texts: &Texts,
+    table_name: &str,
+    name: &str,
+    report: &mut Report,
+) -> Result<(), Trouble> {
+    let wanted = Wanted::of(alloc, row, table, texts)?;
+    let came = came(alloc, row, table, texts)?;
+    let came = wanted.part_of(came.as_slice());
+    report.row(table_name, name, wanted.line.as_slice(), came)
+}
+
 /// A row's name, or else its number.
 fn row_name(alloc: Global, row: &Json, i: usize) -> Result<String, Trouble> {
-    let name = match row.get("row") {
-        Some(json) => String::from_str(alloc, string(json, "row")?)?,
-        None => format!(in alloc; "row {i}")?,
-    };
-    Ok(name)
+    match row.get("row") {
+        Some(json) => {
+            let name = String::from_str(alloc, string(json, "row")?)?;
+            Ok(name)
+        }
+        None => {
+            let name = format!(in alloc; "row {i}")?;
+            Ok(name)
+        }
+    }
 }
 
 /// The line of an answer: the status, and the text behind it.
@@ -99,8 +116,18 @@ impl Wanted {
 fn came(alloc: Global, row: &Json, table: &Json, texts: &Texts) -> Result<Vec<u8>, Trouble> {
     let words = words_of(alloc, row, table)?;
     let mut shelf = shelf_of(alloc, row, table, texts)?;
+    came_over(alloc, row, table, words.as_slice(), &mut shelf)
+}
+
+fn came_over(
+    alloc: Global,
+    row: &Json,
+    table: &Json,
+    words: &[Name],
+    shelf: &mut MemShelf,
+) -> Result<Vec<u8>, Trouble> {
     let mut sink = sink_of(alloc, row, table)?;
-    let status = run(alloc, words.as_slice(), &mut shelf, &mut sink);
+    let status = run(alloc, words, shelf, &mut sink);
     line(alloc, status as u64, sink.bytes())
 }
 

@@ -24,7 +24,7 @@ use pr_value::Text;
 use property_classes::Classes;
 use query_tree::{QueryRefusal, TreeLabel, add_tree, build, i_step, t_step};
 use rule_lex::{LexError, tokens};
-use rule_syntax::{QueryText, SyntaxError, read_query};
+use rule_syntax::{QueryText, Rules, SyntaxError, read_query};
 use rule_types::{AcceptError, Accepted, accept};
 use serde_json::Value as Json;
 use std::alloc::Global;
@@ -36,25 +36,47 @@ pub fn step_table(
     report: &mut Report,
 ) -> Result<(), Trouble> {
     let name = said_string(table, table, "table")?;
-    let text = text_of(alloc, table, "rules", texts)?;
-    let accepted = accepted_of(alloc, text.as_bytes())?;
+    let accepted = accepted_of(alloc, table, texts)?;
     for row in items(table, "rows") {
-        let row_name = said_string(row, row, "row")?;
-        let wanted = text_of(alloc, row, "answer", texts)?;
-        let came = came_of(alloc, &accepted, row, table, texts)?;
-        report.row(name, row_name, wanted.as_bytes(), came.as_slice())?;
+        step_row(alloc, &accepted, row, table, name, texts, report)?;
     }
     Ok(())
 }
 
-/// The accepted rule set that a text reads as.
-fn accepted_of(alloc: Global, text: &[u8]) -> Result<Accepted, Trouble> {
-    let rules = rules_of(alloc, text)?;
+fn step_row(
+    alloc: Global,
+    accepted: &Accepted,
+    row: &Json,
+    table: &Json,
+    table_name: &str,
+    texts: &Texts,
+    report: &mut Report,
+) -> Result<(), Trouble> {
+    let name = said_string(row, row, "row")?;
+    let wanted = text_of(alloc, row, "answer", texts)?;
+    let came = came_of(alloc, accepted, row, table, texts)?;
+    report.row(table_name, name, wanted.as_bytes(), came.as_slice())
+}
+
+/// The accepted rule set of the table.
+fn accepted_of(alloc: Global, table: &Json, texts: &Texts) -> Result<Accepted, Trouble> {
+    let rules = table_rules(alloc, table, texts)?;
     match accept(alloc, rules) {
         Ok(accepted) => Ok(accepted),
-        Err((_rules, AcceptError::Memory)) => Err(Trouble::Memory),
-        Err(_refused) => Err(Trouble::Misshapen("accepted rules")),
+        Err((_rules, error)) => Err(refusal(&error)),
     }
+}
+
+fn refusal(error: &AcceptError) -> Trouble {
+    match error {
+        AcceptError::Memory => Trouble::Memory,
+        _ => Trouble::Misshapen("accepted rules"),
+    }
+}
+
+fn table_rules(alloc: Global, table: &Json, texts: &Texts) -> Result<Rules, Trouble> {
+    let text = text_of(alloc, table, "rules", texts)?;
+    rules_of(alloc, text.as_bytes())
 }
 
 fn query_of(alloc: Global, text: &[u8]) -> Result<QueryText, Trouble> {
@@ -84,6 +106,16 @@ fn said_text(
     }
 }
 
+fn row_catalog(alloc: Global, row: &Json, table: &Json, texts: &Texts) -> Result<Catalog, Trouble> {
+    let text = said_text(alloc, row, table, "catalog", texts)?;
+    catalog_of(alloc, text.as_bytes())
+}
+
+fn row_query(alloc: Global, row: &Json, table: &Json, texts: &Texts) -> Result<QueryText, Trouble> {
+    let text = said_text(alloc, row, table, "query", texts)?;
+    query_of(alloc, text.as_bytes())
+}
+
 /// Under what a row builds its tree and takes its rule.
 #[derive(Clone, Copy)]
 pub struct Under<'a> {
@@ -101,17 +133,27 @@ fn came_of(
     texts: &Texts,
 ) -> Result<Text, Trouble> {
     let classes = Classes::of(alloc, &accepted.rules)?;
-    let catalog = said_text(alloc, row, table, "catalog", texts)?;
-    let catalog = catalog_of(alloc, catalog.as_bytes())?;
-    let query = said_text(alloc, row, table, "query", texts)?;
-    let query = query_of(alloc, query.as_bytes())?;
+    let catalog = row_catalog(alloc, row, table, texts)?;
+    let query = row_query(alloc, row, table, texts)?;
     let under = Under {
         accepted,
         classes: &classes,
         catalog: &catalog,
     };
-    match build(alloc, accepted, &classes, &catalog, &query) {
-        Ok(tree) => told(alloc, &under, row, &tree),
+    came_under(alloc, &under, &query, row)
+}
+
+/// The tree of the query, or what the row's rule makes of it or asks and costs there.
+fn came_under(
+    alloc: Global,
+    under: &Under<'_>,
+    query: &QueryText,
+    row: &Json,
+) -> Result<Text, Trouble>
+    requires classes { under.now.classes.now ≡ classes_of (seen_rules under.now.accepted.now.rules) }
+{
+    match build(alloc, under.accepted, under.classes, under.catalog, query) {
+        Ok(tree) => told(alloc, under, row, &tree),
         Err(QueryRefusal::Memory) => Err(Trouble::Memory),
         Err(_refusal) => Err(Trouble::Misshapen("a query that builds a tree")),
     }
@@ -125,20 +167,34 @@ fn told(alloc: Global, under: &Under<'_>, row: &Json, tree: &Tree) -> Result<Tex
         (seen_tree tree.now) }
 {
     let mut out = Text::new(alloc);
-    if let Some(json) = row.get("trule") {
-        tell_rewritten(alloc, under, string(json, "trule")?, tree, &mut out)?;
-    } else if let Some(json) = row.get("merged") {
-        tell_merged(alloc, under, string(json, "merged")?, tree, &mut out)?;
-    } else if let Some(json) = row.get("irule") {
-        tell_implemented(alloc, under, string(json, "irule")?, tree, &mut out)?;
-    } else if let Some(json) = row.get("plan") {
-        tell_plan(alloc, under, json, tree, &mut out)?;
-    } else if row.get("terms").is_some() {
-        tell_terms(alloc, under, tree, &mut out)?;
-    } else {
-        push_tree(alloc, &under.accepted.rules, tree, 0, &mut out)?;
-    }
+    tell(alloc, under, row, tree, &mut out)?;
     Ok(out)
+}
+
+fn tell(
+    alloc: Global,
+    under: &Under<'_>,
+    row: &Json,
+    tree: &Tree,
+    out: &mut Text,
+) -> Result<(), Trouble>
+    requires classes { under.now.classes.now ≡ classes_of (seen_rules under.now.accepted.now.rules) }
+    requires tree { IsTree (seen_rules under.now.accepted.now.rules) under.now.catalog.now
+        (seen_tree tree.now) }
+{
+    if let Some(json) = row.get("trule") {
+        tell_rewritten(alloc, under, string(json, "trule")?, tree, out)
+    } else if let Some(json) = row.get("merged") {
+        tell_merged(alloc, under, string(json, "merged")?, tree, out)
+    } else if let Some(json) = row.get("irule") {
+        tell_implemented(alloc, under, string(json, "irule")?, tree, out)
+    } else if let Some(json) = row.get("plan") {
+        tell_plan(alloc, under, json, tree, out)
+    } else if row.get("terms").is_some() {
+        tell_terms(alloc, under, tree, out)
+    } else {
+        push_tree(alloc, &under.accepted.rules, tree, 0, out)
+    }
 }
 
 /// The number of the T-rule of that name.
@@ -289,6 +345,10 @@ fn tell_terms(alloc: Global, under: &Under<'_>, tree: &Tree, out: &mut Text) -> 
     let first = add_tree(alloc, accepted, classes, tree, &mut terms)?;
     let again = add_tree(alloc, accepted, classes, tree, &mut terms)?;
     push_terms(alloc, &accepted.rules, &terms, out)?;
+    push_stands(alloc, first, again, out)
+}
+
+fn push_stands(alloc: Global, first: usize, again: usize, out: &mut Text) -> Result<(), Trouble> {
     out.push_bytes(b"stands ")?;
     push_digits(alloc, first as u64, out)?;
     out.push_bytes(b" and ")?;

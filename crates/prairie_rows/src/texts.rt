@@ -67,6 +67,11 @@ impl Texts {
         if let Some(piece) = json.get("each") {
             return for_each(alloc, string(piece, "each")?, json);
         }
+        self.named_piece(alloc, json)
+    }
+
+    /// A named text for each number or with changes, the text of a value of JSON, or lines.
+    fn named_piece(&self, alloc: Global, json: &Json) -> Result<String, Trouble> {
         if let Some(name) = json.get("numbered") {
             return numbered(alloc, self.named(string(name, "numbered")?)?, json);
         }

@@ -8,7 +8,7 @@ use action_eval::{Env, eval};
 use catalog::{Catalog, CatalogError, read_catalog};
 use descriptor_types::Layout;
 use pr_value::Text;
-use rule_syntax::Rules;
+use rule_syntax::{Expr, Rules};
 use rule_types::{Context, are_typed, type_of};
 use serde_json::Value as Json;
 use std::alloc::Global;
@@ -22,13 +22,18 @@ pub fn value_table(
     let name = said_string(table, table, "table")?;
     let kind = said_string(table, table, "kind")?;
     let helpers = text_of(alloc, table, "rules", texts)?;
-    let catalog = catalog_of(alloc, text_of(alloc, table, "catalog", texts)?.as_bytes())?;
+    let catalog = table_catalog(alloc, table, texts)?;
     for row in items(table, "rows") {
         let (expression, wanted) = pair(row, "values")?;
         let came = value(alloc, helpers.as_str(), kind, expression, &catalog)?;
         report.row(name, expression, wanted.as_bytes(), came.as_slice())?;
     }
     Ok(())
+}
+
+fn table_catalog(alloc: Global, table: &Json, texts: &Texts) -> Result<Catalog, Trouble> {
+    let text = text_of(alloc, table, "catalog", texts)?;
+    catalog_of(alloc, text.as_bytes())
 }
 
 /// The value of an expression of a kind, or that it is ill typed.
@@ -41,8 +46,12 @@ fn value(
 ) -> Result<Text, Trouble> {
     let text = format!(in alloc; "{before} helper probe() : {kind} = {expression};")?;
     let rules = rules_of(alloc, text.as_bytes())?;
+    value_under(alloc, &rules, catalog)
+}
+
+fn value_under(alloc: Global, rules: &Rules, catalog: &Catalog) -> Result<Text, Trouble> {
     let mut came = Text::new(alloc);
-    push_value(alloc, &rules, catalog, &mut came)?;
+    push_value(alloc, rules, catalog, &mut came)?;
     Ok(came)
 }
 
@@ -62,21 +71,39 @@ fn push_value(
     catalog: &Catalog,
     out: &mut Text,
 ) -> Result<(), Trouble> {
-    let properties = rules.properties.as_slice();
-    let helpers = rules.helpers.as_slice();
-    let layout = Layout::of(alloc, properties)?;
-    let env = Env::new(alloc, rules, &layout);
-    let Some(probe) = helpers.last() else {
+    let Some(probe) = rules.helpers.as_slice().last() else {
         return Err(Trouble::Misshapen("a helper"));
     };
-    let context = Context::new(alloc, &[], &[])?;
-    if !are_typed(alloc, properties, helpers)?
-        || type_of(alloc, properties, helpers, &context, &probe.body)?.is_none()
-    {
+    if is_typed(alloc, rules, &probe.body)? {
+        push_typed(alloc, rules, &probe.body, catalog, out)
+    } else {
         out.push_bytes(b"ill typed")?;
-        return Ok(());
+        Ok(())
     }
-    let value = eval(alloc, &probe.body, &env, catalog)?;
+}
+
+/// Whether the helpers are well typed, and the expression over them.
+fn is_typed(alloc: Global, rules: &Rules, probe: &Expr) -> Result<bool, Trouble> {
+    let properties = rules.properties.as_slice();
+    let helpers = rules.helpers.as_slice();
+    let context = Context::new(alloc, &[], &[])?;
+    if !are_typed(alloc, properties, helpers)? {
+        return Ok(false);
+    }
+    let kind = type_of(alloc, properties, helpers, &context, probe)?;
+    Ok(kind.is_some())
+}
+
+fn push_typed(
+    alloc: Global,
+    rules: &Rules,
+    probe: &Expr,
+    catalog: &Catalog,
+    out: &mut Text,
+) -> Result<(), Trouble> {
+    let layout = Layout::of(alloc, rules.properties.as_slice())?;
+    let env = Env::new(alloc, rules, &layout);
+    let value = eval(alloc, probe, &env, catalog)?;
     value.print(alloc, out)?;
     Ok(())
 }
