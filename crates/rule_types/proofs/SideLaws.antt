@@ -1,6 +1,6 @@
 -- A side from its root on.
-use Rattle.std.proofs.Common.{◌≡◌, ℕ, ◌+◌, min, Bool, ◌||◌, List, [], ◌∷◌, ◌++◌, length, map, flat_map, refl, ap, sym, ◌∙◌}
-use Rattle.std.proofs.lemmas.List.{length-map}
+use Rattle.std.proofs.Common.{◌≡◌, ℕ, ◌+◌, ◌<◌, min, Bool, ◌||◌, List, [], ◌∷◌, ◌++◌, length, take, get_or, map, flat_map, refl, ap, sym, ◌∙◌}
+use Rattle.std.proofs.lemmas.List.{length-map, take_more, flat_map_more}
 use Rattle.pr_value.specs.Trees.{Tree, trees_of, list_of}
 use Rattle.pr_value.proofs.TreeLaws.{list_of_trees_of}
 use Rattle.rule_syntax.specs.Syntax.{LeftLabel, RightLabel}
@@ -41,6 +41,13 @@ streams-left l = ap streams (fold_out-Left (Tree LeftLabel) (Tree LeftLabel) lef
 
 pub streams_pushed : (l : left.Left) (ls : List left_in.LeftIn) (old new : List ℕ) → ls ≡ (out-Left l).inputs → new ≡ old ++ flat_map (λ x. streams (seen_left_in x)) ls → new ≡ old ++ streams (seen_left l)
 streams_pushed l ls old new same e = e ∙ ap (λ ns. old ++ ns) (ap (λ xs. flat_map (λ x. streams (seen_left_in x)) xs) same ∙ sym (streams-left l))
+
+-- one input more
+pub streams-more : (ls : List left_in.LeftIn) (i : ℕ) (l : left_in.LeftIn) (start old new : List ℕ) → i < length ls → l ≡ get_or ls i l → old ≡ start ++ flat_map (λ x. streams (seen_left_in x)) (take i ls) → new ≡ old ++ streams (seen_left_in l)
+    → new ≡ start ++ flat_map (λ x. streams (seen_left_in x)) (take (i + 1) ls)
+streams-more ls i l start old new within here so_far added =
+    added ∙ ap (λ ns. ns ++ streams (seen_left_in l)) so_far ∙ flat_map_more (λ x. streams (seen_left_in x)) start (take i ls) l
+    ∙ ap (λ xs. start ++ flat_map (λ x. streams (seen_left_in x)) xs) (ap (λ x. take i ls ++ x ∷ []) here ∙ sym (take_more ls i l within))
 
 nodes-left : (l : left.Left) → nodes counts_left (seen_left l) ≡ 1 + nodes_of counts_left (trees_of (map seen_left_in (out-Left l).inputs))
 nodes-left l = ap (nodes counts_left) (fold_out-Left (Tree LeftLabel) (Tree LeftLabel) left_input_level left_level l)

@@ -1,5 +1,17 @@
-use Rattle.rule_types.proofs.SideLaws.{streams_pushed}
+use Rattle.std.proofs.Common.{◌++◌, flat_map, ap, ◌∙◌}
+use Rattle.std.proofs.lemmas.List.{take_all}
+use Rattle.rule_syntax.specs.Seen.{seen_left_in}
+use Rattle.rule_types.specs.Uses.{streams}
+use Rattle.rule_types.proofs.SideLaws.{streams_pushed, streams-more}
 use Rattle.rule_types.proofs.streams.+push_streams.Goals as goal
 
 pub push_left-returns : goal.push_left-returns
 push_left-returns t c = streams_pushed c.args.left.now c.as_slice.result.now c.args.out.now.items c.push_left_ins.new.out.items c.as_slice.ensures c.in_ok-push_left_ins.ensures
+
+pub push_left_ins-loop-input-preserved : goal.push_left_ins-loop-input-preserved
+push_left_ins-loop-input-preserved t c =
+    streams-more c.args.inputs.now c.loop-input.input-index c.input-item.result c.args.out.now.items c.loop-input.out.items _ c.loop-input-test.true c.input-item.is c.loop-input.invariant c.in_ok-push_left_in.ensures
+
+pub push_left_ins-returns : goal.push_left_ins-returns
+push_left_ins-returns t c =
+    c.loop-input.invariant ∙ ap (λ ls. c.args.out.now.items ++ flat_map (λ x. streams (seen_left_in x)) ls) (take_all _ _ c.loop-input-test.false)
