@@ -26,9 +26,9 @@ fn copy_expr(alloc: Global, e: &Expr) -> Result<Expr, Memory>
             args: copy_exprs(alloc, args.as_slice())?,
         }),
         Expr::Binary { left, op, right } => Ok(Expr::Binary {
-            left: boxed(alloc, copy_expr(alloc, left.get())?)?,
+            left: copy_boxed(alloc, left)?,
             op: *op,
-            right: boxed(alloc, copy_expr(alloc, right.get())?)?,
+            right: copy_boxed(alloc, right)?,
         }),
         Expr::Fold {
             fold,
@@ -38,8 +38,8 @@ fn copy_expr(alloc: Global, e: &Expr) -> Result<Expr, Memory>
         } => Ok(Expr::Fold {
             fold: *fold,
             name: name.copy(alloc)?,
-            over: boxed(alloc, copy_expr(alloc, over.get())?)?,
-            body: boxed(alloc, copy_expr(alloc, body.get())?)?,
+            over: copy_boxed(alloc, over)?,
+            body: copy_boxed(alloc, body)?,
         }),
     }
 }
@@ -55,10 +55,11 @@ fn copy_exprs(alloc: Global, es: &[Expr]) -> Result<Items<Expr>, Memory>
     Ok(copies)
 }
 
-fn boxed(alloc: Global, e: Expr) -> Result<Boxed<Expr>, Memory>
-    ensures { IfOk result (λ copy. copy ≡ e) }
+#[cycle(copy_expr)]
+fn copy_boxed(alloc: Global, e: &Boxed<Expr>) -> Result<Boxed<Expr>, Memory>
+    ensures { IfOk result (λ copy. copy ≡ e.now) }
 {
-    Ok(Boxed::new(alloc, e)?)
+    Ok(Boxed::new(alloc, copy_expr(alloc, e.get())?)?)
 }
 
 impl Copied for Expr {
