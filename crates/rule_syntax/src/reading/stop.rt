@@ -8,7 +8,7 @@ use std::alloc::AllocError;
 
 /// Why a reader stopped. `left` counts the tokens from the one on at which it stopped, and is 0 at
 /// the end of the text.
-#[derive(Clone, Copy, PartialEq, Eq, Debug)]
+#[derive(Clone, Copy)]
 pub enum Stop {
     /// No text of the grammar goes on with this token.
     Bad { left: usize },
