@@ -6,8 +6,8 @@ use Rattle.pr_value.specs.Symbols.{Symbol, dash}
 use Rattle.pr_value.specs.declared.value.Value.{Value}
 use Rattle.pr_value.specs.declared.value.Value.TheVariants.{Num, Truth, Sym, Set, List as ListOf}
 use Rattle.catalog.specs.Contents.{Catalog}
-use Rattle.rule_syntax.specs.declared.expr.BinOp.TheVariants as op
-use Rattle.rule_syntax.specs.declared.expr.FoldKind.TheVariants as folding
+use Rattle.rule_ast.specs.declared.expr.BinOp.TheVariants as op
+use Rattle.rule_ast.specs.declared.expr.FoldKind.TheVariants as folding
 use Rattle.action_eval.specs.Builtins.{binary_value, fold_value}
 use Rattle.action_eval.specs.Meaning.{no_calls, with_builtins}
 

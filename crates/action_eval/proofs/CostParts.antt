@@ -7,11 +7,11 @@ use Rattle.std.proofs.lemmas.Bool.{false≢true, not-true}
 use Rattle.pr_value.specs.Symbols.{Symbol}
 use Rattle.pr_value.specs.declared.kind.Kind.TheVariants as kind
 use Rattle.pr_value.specs.SymbolSets.{contains}
-use Rattle.rule_syntax.specs.Reads.{any_read}
-use Rattle.rule_syntax.specs.CostForms.{reads_cost, is_cost_form}
-use Rattle.rule_syntax.specs.declared.expr.BinOp.TheVariants as op
-use Rattle.rule_syntax.specs.Syntax.{Expr, call, binary}
-use Rattle.rule_syntax.specs.Typing.{signatures_of}
+use Rattle.rule_ast.specs.Reads.{any_read}
+use Rattle.rule_ast.specs.CostForms.{reads_cost, is_cost_form}
+use Rattle.rule_ast.specs.declared.expr.BinOp.TheVariants as op
+use Rattle.rule_ast.specs.Syntax.{Expr, call, binary}
+use Rattle.rule_ast.specs.Typing.{signatures_of}
 use Rattle.action_eval.specs.Environments.{Env, type_in, context_of}
 use Rattle.action_eval.specs.FormOf.{IsCost}
 use Rattle.action_eval.specs.Forms.{cost_in}

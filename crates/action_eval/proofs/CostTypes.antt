@@ -7,11 +7,11 @@ use Rattle.pr_value.specs.Symbols.{Symbol}
 use Rattle.pr_value.specs.SymbolSets.{contains}
 use Rattle.pr_value.specs.declared.kind.Kind.{Kind}
 use Rattle.pr_value.specs.declared.kind.Kind.TheVariants as kind
-use Rattle.rule_syntax.specs.declared.expr.BinOp.TheVariants as op
+use Rattle.rule_ast.specs.declared.expr.BinOp.TheVariants as op
 use Rattle.pr_value.specs.declared.property.Property.{Property}
-use Rattle.rule_syntax.specs.Syntax.{Expr, read, call, binary, Exprs}
-use Rattle.rule_syntax.specs.Syntax as syntax
-use Rattle.rule_syntax.specs.Typing.{Signature, Context, same_type, binary_type, call_type, property_kind, type_of_kind, type_of, types_of}
+use Rattle.rule_ast.specs.Syntax.{Expr, read, call, binary, Exprs}
+use Rattle.rule_ast.specs.Syntax as syntax
+use Rattle.rule_ast.specs.Typing.{Signature, Context, same_type, binary_type, call_type, property_kind, type_of_kind, type_of, types_of}
 
 -- two expressions, and three
 abbrev pub two : Expr → Expr → Exprs

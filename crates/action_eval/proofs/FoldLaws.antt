@@ -12,8 +12,8 @@ use Rattle.pr_value.specs.declared.value.Value.{Value}
 use Rattle.pr_value.specs.declared.value.Value.TheVariants as value
 use Rattle.pr_value.proofs.SortLaws.{set_of-ascending}
 use Rattle.pr_value.proofs.SetLaws.{ascends-first, ascends-rest, ascends-skip}
-use Rattle.rule_syntax.specs.declared.expr.FoldKind.{FoldKind}
-use Rattle.rule_syntax.specs.declared.expr.FoldKind.TheVariants as folding
+use Rattle.rule_ast.specs.declared.expr.FoldKind.{FoldKind}
+use Rattle.rule_ast.specs.declared.expr.FoldKind.TheVariants as folding
 use Rattle.action_eval.specs.Builtins.{at, symbols_in, total, product, some_true, all_true, kept, collection, fold_value}
 use Rattle.action_eval.specs.Folds.{total_of, product_of, kept_of, fold_of}
 

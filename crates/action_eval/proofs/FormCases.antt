@@ -7,14 +7,14 @@ use Rattle.pr_value.specs.Symbols.{Symbol}
 use Rattle.pr_value.specs.Values.{truth_in}
 use Rattle.pr_value.specs.declared.kind.Kind.TheVariants as kind
 use Rattle.catalog.specs.Contents.{Catalog}
-use Rattle.rule_syntax.specs.CostForms.{is_cost_form, are_cost_forms, call_is_form}
-use Rattle.rule_syntax.specs.declared.expr.BinOp.{BinOp}
-use Rattle.rule_syntax.specs.declared.expr.BinOp.TheVariants as op
-use Rattle.rule_syntax.specs.declared.expr.Expr as rust
-use Rattle.rule_syntax.specs.declared.expr.Expr.TheVariants as variant
-use Rattle.rule_syntax.specs.Seen.{seen_expr, exprs_of}
-use Rattle.rule_syntax.specs.Syntax.{Expr, read, call, binary}
-use Rattle.rule_syntax.proofs.SeenLaws.{seen_read, seen_call, seen_binary}
+use Rattle.rule_ast.specs.CostForms.{is_cost_form, are_cost_forms, call_is_form}
+use Rattle.rule_ast.specs.declared.expr.BinOp.{BinOp}
+use Rattle.rule_ast.specs.declared.expr.BinOp.TheVariants as op
+use Rattle.rule_ast.specs.declared.expr.Expr as rust
+use Rattle.rule_ast.specs.declared.expr.Expr.TheVariants as variant
+use Rattle.rule_ast.specs.Seen.{seen_expr, exprs_of}
+use Rattle.rule_ast.specs.Syntax.{Expr, read, call, binary}
+use Rattle.rule_ast.proofs.SeenLaws.{seen_read, seen_call, seen_binary}
 use Rattle.action_eval.specs.Cost as cost
 use Rattle.action_eval.specs.Environments.{Env, type_in, value_here}
 use Rattle.action_eval.specs.FormOf.{IsCost, IsFormOf}

@@ -13,9 +13,9 @@ use Rattle.pr_value.specs.declared.value.Value.{Value}
 use Rattle.pr_value.specs.declared.value.Value.TheVariants as value
 use Rattle.catalog.specs.Contents.{Catalog}
 use Rattle.descriptor_types.specs.Descriptors.{fits, value_of}
-use Rattle.rule_syntax.specs.declared.expr.BinOp.TheVariants as op
-use Rattle.rule_syntax.specs.Syntax.{Expr, number, truth, symbol, set_of, list_of, var, read, call, binary, fold}
-use Rattle.rule_syntax.specs.Typing.{signatures_of, property_kind}
+use Rattle.rule_ast.specs.declared.expr.BinOp.TheVariants as op
+use Rattle.rule_ast.specs.Syntax.{Expr, number, truth, symbol, set_of, list_of, var, read, call, binary, fold}
+use Rattle.rule_ast.specs.Typing.{signatures_of, property_kind}
 use Rattle.action_eval.specs.Meaning.{functions, desc_in}
 use Rattle.action_eval.specs.Environments.{Env, context_of, value_here}
 use Rattle.action_eval.specs.Cost as cost

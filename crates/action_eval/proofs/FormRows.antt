@@ -5,9 +5,9 @@ use Rattle.pr_value.specs.Symbols.{Symbol}
 use Rattle.pr_value.specs.declared.kind.Kind.TheVariants as kind
 use Rattle.pr_value.specs.declared.value.Value.TheVariants as value
 use Rattle.catalog.specs.Contents.{Catalog}
-use Rattle.rule_syntax.specs.declared.expr.BinOp.TheVariants as op
-use Rattle.rule_syntax.specs.Syntax.{Expr, Exprs, Rules, binary, call, number, read}
-use Rattle.rule_syntax.specs.Syntax as syntax
+use Rattle.rule_ast.specs.declared.expr.BinOp.TheVariants as op
+use Rattle.rule_ast.specs.Syntax.{Expr, Exprs, Rules, binary, call, number, read}
+use Rattle.rule_ast.specs.Syntax as syntax
 use Rattle.action_eval.specs.Cost as cost
 use Rattle.action_eval.specs.Cost.{CostForm, cost_of}
 use Rattle.action_eval.specs.Environments.{Env}

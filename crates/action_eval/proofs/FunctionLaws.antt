@@ -13,10 +13,10 @@ use Rattle.pr_value.specs.declared.value.Value.{Value}
 use Rattle.pr_value.specs.declared.value.Value.TheVariants as value
 use Rattle.pr_value.proofs.Shelf.{bytes_eq-same}
 use Rattle.catalog.specs.Contents.{Catalog}
-use Rattle.rule_syntax.specs.Typing.{Signature, Row, same_types, is_builtin, builtin_of, function_in, call_type, result_in, helper_result}
-use Rattle.rule_syntax.specs.Typing as typing
-use Rattle.rule_syntax.specs.declared.table.Builtin.{Builtin}
-use Rattle.rule_syntax.specs.declared.table.Builtin.TheVariants as builtin
+use Rattle.rule_ast.specs.Typing.{Signature, Row, same_types, is_builtin, builtin_of, function_in, call_type, result_in, helper_result}
+use Rattle.rule_ast.specs.Typing as typing
+use Rattle.rule_ast.specs.declared.table.Builtin.{Builtin}
+use Rattle.rule_ast.specs.declared.table.Builtin.TheVariants as builtin
 use Rattle.action_eval.specs.Builtins.{Functions, builtin_value, meant, is_prefix, at, found, num_found, truth_found, symbol_found, set_found, list_found}
 use Rattle.action_eval.specs.Meaning.{with_builtins}
 use Rattle.action_eval.specs.Types.{kind_of}

@@ -9,12 +9,12 @@ use Rattle.pr_value.specs.declared.kind.Kind.{Kind}
 use Rattle.pr_value.specs.declared.value.Value.{Value}
 use Rattle.catalog.specs.Contents.{Catalog}
 use Rattle.descriptor_types.specs.Descriptors.{Layout}
-use Rattle.rule_syntax.specs.declared.parts.Helper as rust
-use Rattle.rule_syntax.specs.declared.parts.Param.{Param}
+use Rattle.rule_ast.specs.declared.parts.Helper as rust
+use Rattle.rule_ast.specs.declared.parts.Param.{Param}
 use Rattle.pr_value.specs.declared.property.Property.{Property}
-use Rattle.rule_syntax.specs.Syntax.{Helper}
-use Rattle.rule_syntax.specs.Seen.{seen_expr, seen_helper}
-use Rattle.rule_syntax.specs.Typing.{Signature, Context, type_of_kind, same_type, same_types, helper_result, type_of, is_type, helper_signature, params_context, signatures_before, signatures_of, are_typed}
+use Rattle.rule_ast.specs.Syntax.{Helper}
+use Rattle.rule_ast.specs.Seen.{seen_expr, seen_helper}
+use Rattle.rule_ast.specs.Typing.{Signature, Context, type_of_kind, same_type, same_types, helper_result, type_of, is_type, helper_signature, params_context, signatures_before, signatures_of, are_typed}
 use Rattle.action_eval.specs.Builtins.{Functions}
 use Rattle.action_eval.specs.Meaning.{Scope, value_by, bound, no_calls, with_builtins, with_helper, with_helpers, functions}
 use Rattle.action_eval.specs.Types.{kind_of, context_in}

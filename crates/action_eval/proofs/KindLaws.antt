@@ -14,14 +14,14 @@ use Rattle.pr_value.specs.declared.kind.Kind.TheVariants as kind
 use Rattle.pr_value.specs.declared.value.Value.{Value}
 use Rattle.pr_value.specs.declared.value.Value.TheVariants as value
 use Rattle.descriptor_types.specs.Descriptors.{Layout, Desc, fits, value_of}
-use Rattle.rule_syntax.specs.declared.expr.BinOp.{BinOp}
-use Rattle.rule_syntax.specs.declared.expr.BinOp.TheVariants as op
-use Rattle.rule_syntax.specs.declared.expr.FoldKind.{FoldKind}
-use Rattle.rule_syntax.specs.declared.expr.FoldKind.TheVariants as folding
+use Rattle.rule_ast.specs.declared.expr.BinOp.{BinOp}
+use Rattle.rule_ast.specs.declared.expr.BinOp.TheVariants as op
+use Rattle.rule_ast.specs.declared.expr.FoldKind.{FoldKind}
+use Rattle.rule_ast.specs.declared.expr.FoldKind.TheVariants as folding
 use Rattle.pr_value.specs.declared.property.Property.{Property}
-use Rattle.rule_syntax.specs.Syntax.{Expr, number, truth, symbol, set_of, list_of, var, read, call, binary, fold, Exprs, Helper}
-use Rattle.rule_syntax.specs.Syntax as syntax
-use Rattle.rule_syntax.specs.Typing.{Signature, type_of_kind, same_type, call_type, binary_type, fold_type, member_type, is_collection, var_type, property_kind, is_symbol_type, of_symbols, type_of, types_of}
+use Rattle.rule_ast.specs.Syntax.{Expr, number, truth, symbol, set_of, list_of, var, read, call, binary, fold, Exprs, Helper}
+use Rattle.rule_ast.specs.Syntax as syntax
+use Rattle.rule_ast.specs.Typing.{Signature, type_of_kind, same_type, call_type, binary_type, fold_type, member_type, is_collection, var_type, property_kind, is_symbol_type, of_symbols, type_of, types_of}
 use Rattle.action_eval.specs.Builtins.{Functions, collection, fold_value, binary_value}
 use Rattle.action_eval.specs.Meaning.{Scope, desc_in, value_in, value_by, values_by}
 use Rattle.action_eval.specs.Types.{kind_of, context_in}

@@ -6,11 +6,11 @@ use Rattle.pr_value.specs.Symbols.{Symbol}
 use Rattle.pr_value.specs.Values.{members_in}
 use Rattle.pr_value.specs.declared.value.Value.{Value}
 use Rattle.pr_value.specs.declared.value.Value.TheVariants as value
-use Rattle.rule_syntax.specs.declared.expr.Expr as rust
-use Rattle.rule_syntax.specs.declared.expr.FoldKind.{FoldKind}
-use Rattle.rule_syntax.specs.Seen.{seen_expr, exprs_of}
-use Rattle.rule_syntax.specs.Syntax.{Expr, Exprs}
-use Rattle.rule_syntax.specs.Syntax as syntax
+use Rattle.rule_ast.specs.declared.expr.Expr as rust
+use Rattle.rule_ast.specs.declared.expr.FoldKind.{FoldKind}
+use Rattle.rule_ast.specs.Seen.{seen_expr, exprs_of}
+use Rattle.rule_ast.specs.Syntax.{Expr, Exprs}
+use Rattle.rule_ast.specs.Syntax as syntax
 use Rattle.action_eval.specs.Builtins.{at, fold_value}
 use Rattle.action_eval.specs.Machine.{World, Frame, Task, Maker, eval, make, turns, turn, leave, member, body, is_in_body, set, list, call, fold, ended, later, made, value_in_frame, steps_in_frame, steps_to_make, functions_in, steps_of_calls, scope_in, evals, turns_at}
 use Rattle.action_eval.specs.Meaning.{values_by}

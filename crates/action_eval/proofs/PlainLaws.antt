@@ -7,9 +7,9 @@ use Rattle.pr_value.specs.SymbolSets as sets
 use Rattle.pr_value.specs.declared.value.Value.{Value}
 use Rattle.pr_value.specs.declared.value.Value.TheVariants as value
 use Rattle.descriptor_types.specs.Descriptors.{Desc, Layout, value_of}
-use Rattle.rule_syntax.specs.CostForms.{reads_cost, any_reads_cost}
-use Rattle.rule_syntax.specs.Syntax.{Expr, number, truth, symbol, set_of, list_of, var, read, call, binary, fold, Exprs}
-use Rattle.rule_syntax.specs.Syntax as syntax
+use Rattle.rule_ast.specs.CostForms.{reads_cost, any_reads_cost}
+use Rattle.rule_ast.specs.Syntax.{Expr, number, truth, symbol, set_of, list_of, var, read, call, binary, fold, Exprs}
+use Rattle.rule_ast.specs.Syntax as syntax
 use Rattle.action_eval.specs.Builtins.{Functions, binary_value, fold_value, symbols_in}
 use Rattle.action_eval.specs.Meaning.{Scope, desc_in, value_by, values_by}
 

@@ -6,7 +6,7 @@ use Rattle.pr_value.specs.Symbols.{Symbol}
 use Rattle.pr_value.specs.declared.value.Value.{Value}
 use Rattle.pr_value.specs.declared.value.Value.TheVariants as value
 use Rattle.descriptor_types.specs.Descriptors.{Layout, Desc, place_of, value_of}
-use Rattle.rule_syntax.specs.declared.parts.Param.{Param}
+use Rattle.rule_ast.specs.declared.parts.Param.{Param}
 use Rattle.action_eval.specs.Builtins.{at}
 use Rattle.action_eval.specs.Meaning.{bound, value_in}
 use Rattle.action_eval.proofs.TypeLaws.{some-same}

@@ -15,11 +15,11 @@ use Rattle.pr_value.specs.declared.value.Value.{Value}
 use Rattle.pr_value.specs.declared.value.Value.TheVariants as value
 use Rattle.catalog.specs.Contents.{Catalog}
 use Rattle.descriptor_types.specs.Descriptors.{Layout, Desc, fits, with_value}
-use Rattle.rule_syntax.specs.declared.expr.Stmt as rust
+use Rattle.rule_ast.specs.declared.expr.Stmt as rust
 use Rattle.pr_value.specs.declared.property.Property.{Property}
-use Rattle.rule_syntax.specs.Syntax.{Expr, Stmt, set, copy, Helper, Rules}
-use Rattle.rule_syntax.specs.Seen.{seen_stmt}
-use Rattle.rule_syntax.specs.Typing.{Context, type_of_kind, property_kind, fits_property, is_typed_stmt, signatures_of}
+use Rattle.rule_ast.specs.Syntax.{Expr, Stmt, set, copy, Helper, Rules}
+use Rattle.rule_ast.specs.Seen.{seen_stmt}
+use Rattle.rule_ast.specs.Typing.{Context, type_of_kind, property_kind, fits_property, is_typed_stmt, signatures_of}
 use Rattle.action_eval.specs.Environments.{Env, IsSound, context_of, scope_of, type_in, are_typed_here, value_here, after}
 use Rattle.action_eval.specs.Meaning.{Scope, desc_in, with_desc_in, functions, value_by, run_one, run}
 use Rattle.action_eval.proofs.HelperLaws.{sound-functions}

@@ -7,8 +7,8 @@ use Rattle.pr_value.specs.Symbols.{Symbol}
 use Rattle.pr_value.specs.declared.value.Value.{Value}
 use Rattle.catalog.specs.Contents.{Catalog}
 use Rattle.descriptor_types.specs.Descriptors.{Layout}
-use Rattle.rule_syntax.specs.declared.parts.Helper as rust
-use Rattle.rule_syntax.specs.Seen.{seen_expr, seen_helper}
+use Rattle.rule_ast.specs.declared.parts.Helper as rust
+use Rattle.rule_ast.specs.Seen.{seen_expr, seen_helper}
 use Rattle.action_eval.specs.Builtins.{Functions}
 use Rattle.action_eval.specs.Meaning.{no_calls, with_builtins, with_helper, with_helpers, functions}
 use Rattle.action_eval.specs.Steps.{Steps, no_steps, steps_by, with_builtin_steps, with_helper_steps, with_helpers_steps, call_steps}

@@ -8,17 +8,17 @@ use Rattle.pr_value.specs.Symbols.{Symbol}
 use Rattle.pr_value.specs.Values.{members_in}
 use Rattle.pr_value.specs.declared.value.Value.{Value}
 use Rattle.pr_value.specs.declared.value.Value.TheVariants as value
-use Rattle.rule_syntax.specs.declared.expr.Expr as rust
-use Rattle.rule_syntax.specs.declared.expr.Expr.TheVariants as variant
-use Rattle.rule_syntax.specs.declared.expr.FoldKind.{FoldKind}
-use Rattle.rule_syntax.specs.declared.table.Builtin.{Builtin}
-use Rattle.rule_syntax.specs.declared.parts.Helper as helper
-use Rattle.rule_syntax.specs.declared.parts.Param.{Param}
-use Rattle.rule_syntax.specs.Seen.{seen_expr, seen_helper, exprs_of}
-use Rattle.rule_syntax.specs.Syntax.{Expr}
-use Rattle.rule_syntax.specs.Syntax as syntax
-use Rattle.rule_syntax.specs.Typing.{builtin_of}
-use Rattle.rule_syntax.proofs.SeenLaws.{seen_number, seen_truth, seen_symbol, seen_set, seen_list, seen_call, seen_fold}
+use Rattle.rule_ast.specs.declared.expr.Expr as rust
+use Rattle.rule_ast.specs.declared.expr.Expr.TheVariants as variant
+use Rattle.rule_ast.specs.declared.expr.FoldKind.{FoldKind}
+use Rattle.rule_ast.specs.declared.table.Builtin.{Builtin}
+use Rattle.rule_ast.specs.declared.parts.Helper as helper
+use Rattle.rule_ast.specs.declared.parts.Param.{Param}
+use Rattle.rule_ast.specs.Seen.{seen_expr, seen_helper, exprs_of}
+use Rattle.rule_ast.specs.Syntax.{Expr}
+use Rattle.rule_ast.specs.Syntax as syntax
+use Rattle.rule_ast.specs.Typing.{builtin_of}
+use Rattle.rule_ast.proofs.SeenLaws.{seen_number, seen_truth, seen_symbol, seen_set, seen_list, seen_call, seen_fold}
 use Rattle.action_eval.specs.Builtins.{at, builtin_value, meant}
 use Rattle.action_eval.specs.Machine.{World, State, Task, Frame, eval, make, turns, turn, leave, member, body, set, list, call, fold, ended, ended_from, later, made, value_in_frame, steps_in_frame, evals, turns_at, helpers_in, StepsFrom, Calls, CallsHelper}
 use Rattle.action_eval.specs.Meaning.{functions, no_calls, value_by, with_helpers}

@@ -7,10 +7,10 @@ use Rattle.pr_value.specs.declared.kind.Kind.TheVariants as kind
 use Rattle.pr_value.specs.declared.value.Value.TheVariants as value
 use Rattle.catalog.specs.Contents.{Catalog}
 use Rattle.descriptor_types.specs.Descriptors.{Layout}
-use Rattle.rule_syntax.specs.declared.expr.BinOp.TheVariants as op
-use Rattle.rule_syntax.specs.declared.expr.FoldKind.TheVariants as folding
-use Rattle.rule_syntax.specs.Syntax.{Expr, number, symbol, list_of, var, call, binary, fold, Exprs, nil, cons, Helper}
-use Rattle.rule_syntax.specs.Syntax as syntax
+use Rattle.rule_ast.specs.declared.expr.BinOp.TheVariants as op
+use Rattle.rule_ast.specs.declared.expr.FoldKind.TheVariants as folding
+use Rattle.rule_ast.specs.Syntax.{Expr, number, symbol, list_of, var, call, binary, fold, Exprs, nil, cons, Helper}
+use Rattle.rule_ast.specs.Syntax as syntax
 use Rattle.action_eval.specs.Meaning.{Scope, val, run}
 
 abbrev catalog : Catalog

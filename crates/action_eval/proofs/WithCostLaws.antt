@@ -13,7 +13,7 @@ use Rattle.pr_value.specs.declared.value.Value.{Value}
 use Rattle.pr_value.specs.declared.value.Value.TheVariants as value
 use Rattle.descriptor_types.specs.Descriptors.{Desc, Layout, value_of, with_value, fits}
 use Rattle.pr_value.specs.declared.property.Property.{Property}
-use Rattle.rule_syntax.specs.Typing.{property_kind}
+use Rattle.rule_ast.specs.Typing.{property_kind}
 use Rattle.action_eval.specs.Meaning.{desc_in, with_desc_in}
 use Rattle.pr_value.specs.Repeats.{are_distinct}
 use Rattle.action_eval.specs.Forms.{place, with_cost, descs_with_costs}

@@ -7,7 +7,7 @@ use Rattle.pr_value.specs.Values.{has_kind}
 use Rattle.pr_value.specs.declared.kind.Kind.{Kind}
 use Rattle.catalog.specs.Contents.{Catalog}
 use Rattle.descriptor_types.specs.Descriptors.{Desc, fits}
-use Rattle.rule_syntax.specs.Syntax.{Expr}
+use Rattle.rule_ast.specs.Syntax.{Expr}
 use Rattle.action_eval.specs.Environments.{Env, IsSound, bound_desc, bound_in, bound_all, names_bound, type_in, value_here}
 use Rattle.action_eval.specs.Meaning.{desc_in}
 

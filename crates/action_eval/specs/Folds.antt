@@ -6,8 +6,8 @@ use Rattle.pr_value.specs.Symbols.{Symbol}
 use Rattle.pr_value.specs.Values.{number_in, truth_in, members_in}
 use Rattle.pr_value.specs.declared.value.Value.{Value}
 use Rattle.pr_value.specs.declared.value.Value.TheVariants as value
-use Rattle.rule_syntax.specs.declared.expr.FoldKind.{FoldKind}
-use Rattle.rule_syntax.specs.declared.expr.FoldKind.TheVariants as folding
+use Rattle.rule_ast.specs.declared.expr.FoldKind.{FoldKind}
+use Rattle.rule_ast.specs.declared.expr.FoldKind.TheVariants as folding
 use Rattle.action_eval.specs.Builtins.{collection}
 
 abbrev pub total_of : List Value → ℕ → ℕ

@@ -3,8 +3,8 @@ use Rattle.std.specs.Prelude.{◌≡◌, ℕ, true, List, length, Some}
 use Rattle.pr_value.specs.Symbols.{Symbol}
 use Rattle.pr_value.specs.declared.kind.Kind.TheVariants as kind
 use Rattle.catalog.specs.Contents.{Catalog}
-use Rattle.rule_syntax.specs.CostForms.{is_cost_form, reads_cost_of}
-use Rattle.rule_syntax.specs.Syntax.{Expr}
+use Rattle.rule_ast.specs.CostForms.{is_cost_form, reads_cost_of}
+use Rattle.rule_ast.specs.Syntax.{Expr}
 use Rattle.action_eval.specs.Environments.{Env, IsSound, type_in}
 use Rattle.action_eval.specs.Cost.{CostForm, cost_of, is_over}
 use Rattle.pr_value.specs.Repeats.{are_distinct}

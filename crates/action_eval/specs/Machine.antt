@@ -9,13 +9,13 @@ use Rattle.pr_value.specs.declared.value.Value.{Value}
 use Rattle.pr_value.specs.declared.value.Value.TheVariants as value
 use Rattle.catalog.specs.Contents.{Catalog}
 use Rattle.descriptor_types.specs.Descriptors.{Desc, Layout}
-use Rattle.rule_syntax.specs.declared.expr.BinOp.{BinOp}
-use Rattle.rule_syntax.specs.declared.expr.FoldKind.{FoldKind}
-use Rattle.rule_syntax.specs.declared.parts.Helper.{Helper}
-use Rattle.rule_syntax.specs.declared.parts.Param.{Param}
-use Rattle.rule_syntax.specs.Seen.{seen_helper}
-use Rattle.rule_syntax.specs.Syntax.{Expr, Exprs}
-use Rattle.rule_syntax.specs.Syntax as syntax
+use Rattle.rule_ast.specs.declared.expr.BinOp.{BinOp}
+use Rattle.rule_ast.specs.declared.expr.FoldKind.{FoldKind}
+use Rattle.rule_ast.specs.declared.parts.Helper.{Helper}
+use Rattle.rule_ast.specs.declared.parts.Param.{Param}
+use Rattle.rule_ast.specs.Seen.{seen_helper}
+use Rattle.rule_ast.specs.Syntax.{Expr, Exprs}
+use Rattle.rule_ast.specs.Syntax as syntax
 use Rattle.action_eval.specs.Builtins.{Functions, at, binary_value, fold_value, symbols_in}
 use Rattle.action_eval.specs.Folds.{fold_of}
 use Rattle.action_eval.specs.Meaning.{Scope, bound, functions, no_calls, value_by, with_helpers, with_member}

@@ -4,7 +4,7 @@ use Rattle.std.specs.List.{list_any}
 use Rattle.std.specs.Str.{bytes_eq}
 use Rattle.pr_value.specs.Symbols.{Symbol}
 use Rattle.descriptor_types.specs.Descriptors.{Desc}
-use Rattle.rule_syntax.specs.declared.parts.Helper.{Helper}
+use Rattle.rule_ast.specs.declared.parts.Helper.{Helper}
 
 -- the place of the descriptor of that name
 abbrev pub desc_place : List (Symbol × Desc) → Symbol → Option ℕ

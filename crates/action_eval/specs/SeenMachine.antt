@@ -1,6 +1,6 @@
 -- How the definitions see the machine of the code.
 use Rattle.std.specs.Prelude.{map, reverse}
-use Rattle.rule_syntax.specs.Seen.{seen_expr}
+use Rattle.rule_ast.specs.Seen.{seen_expr}
 use Rattle.action_eval.specs.Machine as machine
 use Rattle.action_eval.specs.Machine.{World, State, eval, make, turns, turn, leave, body, member}
 use Rattle.action_eval.specs.declared.machine.Maker.{Maker}

@@ -6,10 +6,10 @@ use Rattle.pr_value.specs.Values.{members_in}
 use Rattle.pr_value.specs.declared.value.Value.{Value}
 use Rattle.catalog.specs.Contents.{Catalog}
 use Rattle.descriptor_types.specs.Descriptors.{Layout}
-use Rattle.rule_syntax.specs.declared.table.Builtin.{Builtin}
-use Rattle.rule_syntax.specs.Syntax.{Expr, number, truth, symbol, set_of, list_of, var, read, call, binary, fold, Exprs, Helper}
-use Rattle.rule_syntax.specs.Syntax as syntax
-use Rattle.rule_syntax.specs.Typing.{builtin_of}
+use Rattle.rule_ast.specs.declared.table.Builtin.{Builtin}
+use Rattle.rule_ast.specs.Syntax.{Expr, number, truth, symbol, set_of, list_of, var, read, call, binary, fold, Exprs, Helper}
+use Rattle.rule_ast.specs.Syntax as syntax
+use Rattle.rule_ast.specs.Typing.{builtin_of}
 use Rattle.action_eval.specs.Builtins.{Functions}
 use Rattle.action_eval.specs.Meaning.{Scope, bound, no_calls, value_by, values_by, with_builtins, with_helper, with_member}
 

@@ -4,7 +4,7 @@ use Rattle.pr_value.specs.declared.kind.Kind.{Kind}
 use Rattle.pr_value.specs.declared.kind.Kind.TheVariants as kind
 use Rattle.pr_value.specs.declared.value.Value.{Value}
 use Rattle.pr_value.specs.declared.value.Value.TheVariants as value
-use Rattle.rule_syntax.specs.Typing.{Context}
+use Rattle.rule_ast.specs.Typing.{Context}
 use Rattle.action_eval.specs.Meaning.{Scope}
 
 -- the type of a value

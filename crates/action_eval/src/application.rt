@@ -11,7 +11,7 @@ use crate::collections::{list_of, push_all, symbols_in};
 use crate::held::Held;
 use catalog::Catalog;
 use pr_value::{CAP, Memory, SymList, SymSet, Symbol, Value, cap_log2, copy_symbols, symbol_in};
-use rule_syntax::Builtin;
+use rule_ast::Builtin;
 use std::alloc::Global;
 
 /// What a built-in function gives of its arguments.

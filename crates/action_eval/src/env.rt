@@ -5,11 +5,11 @@ ghost use Rattle.action_eval.specs.Meaning.{desc_in, with_desc_in};
 ghost use Rattle.descriptor_types.specs.Descriptors.{with_value};
 ghost use Rattle.action_eval.specs.Names.{desc_place};
 ghost use Rattle.action_eval.specs.SeenEnv.{seen_env};
-ghost use Rattle.rule_syntax.specs.SeenRules.{seen_rules};
+ghost use Rattle.rule_ast.specs.SeenRules.{seen_rules};
 
 use descriptor_types::{Desc, Layout};
 use pr_value::{Memory, Symbol, Value};
-use rule_syntax::Rules;
+use rule_ast::Rules;
 use std::alloc::Global;
 
 /// Descriptors by their names, over a rule set and its layout.

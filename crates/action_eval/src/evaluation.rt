@@ -1,13 +1,13 @@
 // Evaluation, which keeps what is still to be done in memory and not on the call stack.
 ghost use Rattle.std.specs.Prelude.{◌≡◌, [], IfOk};
-ghost use Rattle.rule_syntax.specs.Seen.{seen_expr};
+ghost use Rattle.rule_ast.specs.Seen.{seen_expr};
 ghost use Rattle.action_eval.specs.Machine.{ended_from, value_in_frame};
 ghost use Rattle.action_eval.specs.SeenMachine.{seen_machine, seen_within};
 
 use crate::machine::{Machine, Task};
 use crate::stepping::{Within, step};
 use pr_value::{Memory, Value};
-use rule_syntax::Expr;
+use rule_ast::Expr;
 use std::alloc::Global;
 
 /// Does all tasks, and answers the value that they end with.

@@ -1,7 +1,7 @@
 ghost use Rattle.std.specs.Prelude.{◌≡◌, true, Some, IfOk};
 ghost use Rattle.pr_value.specs.Values.{has_kind};
 ghost use Rattle.pr_value.specs.declared.kind.Kind.{Kind};
-ghost use Rattle.rule_syntax.specs.Seen.{seen_expr};
+ghost use Rattle.rule_ast.specs.Seen.{seen_expr};
 ghost use Rattle.action_eval.specs.Environments.{IsSound, type_in, value_here};
 ghost use Rattle.action_eval.specs.SeenEnv.{seen_env};
 
@@ -10,7 +10,7 @@ use crate::evaluation::evaluate;
 use crate::stepping::Within;
 use catalog::Catalog;
 use pr_value::{Memory, Value};
-use rule_syntax::Expr;
+use rule_ast::Expr;
 use std::alloc::Global;
 
 /// The value of an expression. Where it is well typed, numbers are 0 to 10^18; a name that stands for

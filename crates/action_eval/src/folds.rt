@@ -9,7 +9,7 @@ use crate::arguments::truth_at;
 use crate::collections::list_of;
 use crate::held::Held;
 use pr_value::{Memory, SymSet, Symbol, Value, cap_add, cap_mul, number_in, truth_in};
-use rule_syntax::FoldKind;
+use rule_ast::FoldKind;
 use std::alloc::Global;
 
 /// The fold over a set or a list, from the value at each member in order.

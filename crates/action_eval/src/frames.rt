@@ -8,7 +8,7 @@ use crate::arguments::copy_at;
 use crate::held::Held;
 use crate::machine::Frame;
 use pr_value::{Memory, Symbol, Value};
-use rule_syntax::Param;
+use rule_ast::Param;
 use std::alloc::Global;
 
 fn argument<'a>(

@@ -4,7 +4,7 @@ ghost use Rattle.std.specs.Str.{bytes_eq};
 ghost use Rattle.action_eval.specs.Names.{IsLatest};
 
 use pr_value::Symbol;
-use rule_syntax::Helper;
+use rule_ast::Helper;
 
 /// The place of the latest helper of that name.
 pub fn place_of(helpers: &[Helper], name: &Symbol) -> Option<usize>

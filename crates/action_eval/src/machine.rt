@@ -1,13 +1,13 @@
 // The stacks of the machine that evaluates. Nothing here goes deeper than one call.
 ghost use Rattle.std.specs.Prelude.{◌≡◌, ◌∷◌, take, drop, reverse, IfSome, IfNone, IfOk, OnOk, []};
-ghost use Rattle.rule_syntax.specs.Seen.{seen_expr};
+ghost use Rattle.rule_ast.specs.Seen.{seen_expr};
 ghost use Rattle.action_eval.specs.Builtins.{at};
 ghost use Rattle.action_eval.specs.Machine as spec;
 ghost use Rattle.action_eval.specs.SeenMachine.{seen_task, seen_frame, seen_machine};
 
 use crate::held::Held;
 use pr_value::{Memory, Symbol, Value};
-use rule_syntax::{BinOp, Expr, FoldKind, Param};
+use rule_ast::{BinOp, Expr, FoldKind, Param};
 use std::alloc::Global;
 
 /// What is made of values.

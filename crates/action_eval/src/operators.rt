@@ -2,7 +2,7 @@ ghost use Rattle.std.specs.Prelude.{◌≡◌, ◌&&◌, ◌||◌};
 ghost use Rattle.action_eval.specs.Builtins.{binary_value};
 
 use pr_value::{Value, cap_add, cap_div, cap_mul, cap_sub, number_in, truth_in};
-use rule_syntax::BinOp;
+use rule_ast::BinOp;
 
 /// What an operator makes of two values. It takes no memory.
 pub fn binary(op: BinOp, a: &Value, b: &Value) -> Value

@@ -1,5 +1,5 @@
 ghost use Rattle.std.specs.Prelude.{◌≡◌, ℕ, true, map, take, [], ◌∷◌, OnOk, OnErr};
-ghost use Rattle.rule_syntax.specs.Seen.{seen_stmt};
+ghost use Rattle.rule_ast.specs.Seen.{seen_stmt};
 ghost use Rattle.action_eval.specs.Environments.{IsSound, are_typed_here, after, context_of};
 ghost use Rattle.action_eval.specs.SeenEnv.{seen_env};
 
@@ -7,7 +7,7 @@ use crate::env::Env;
 use crate::expressions::eval;
 use catalog::Catalog;
 use pr_value::Memory;
-use rule_syntax::Stmt;
+use rule_ast::Stmt;
 use std::alloc::Global;
 
 /// Runs the statements in order. After an error those before some place have been run, and no

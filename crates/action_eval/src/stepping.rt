@@ -2,7 +2,7 @@
 ghost use Rattle.std.specs.Prelude.{◌≡◌, ◌∷◌, ◌++◌, [], map, reverse, drop, length, IfOk, OnOk};
 ghost use Rattle.pr_value.specs.Values.{members_in};
 ghost use Rattle.descriptor_types.specs.Descriptors.{value_of};
-ghost use Rattle.rule_syntax.specs.Seen.{seen_expr, exprs_of};
+ghost use Rattle.rule_ast.specs.Seen.{seen_expr, exprs_of};
 ghost use Rattle.action_eval.specs.Builtins.{at, binary_value};
 ghost use Rattle.action_eval.specs.Folds.{fold_of};
 ghost use Rattle.action_eval.specs.Meaning.{desc_in};
@@ -22,7 +22,7 @@ use crate::operators::binary;
 use crate::reading::read;
 use catalog::Catalog;
 use pr_value::{Memory, Symbol, Value, copy_symbols, members_in};
-use rule_syntax::{BinOp, Expr, FoldKind, Rules, builtin_of};
+use rule_ast::{BinOp, Expr, FoldKind, Rules, builtin_of};
 use std::alloc::Global;
 
 /// What the machine evaluates in.

@@ -24,7 +24,7 @@ pub(crate) trait Named: Drop {
 }
 
 /// Items with names, which differ and ascend by bytes.
-#[derive(Debug, Drop)]
+#[derive(Drop)]
 pub(crate) struct ByName<T: Named> {
     items: Vec<T>,
 }

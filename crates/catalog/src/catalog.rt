@@ -13,7 +13,7 @@ use std::alloc::Global;
 use std::marker::Model;
 
 /// What a catalog says of a file.
-#[derive(Clone, Copy, Debug)]
+#[derive(Clone, Copy)]
 pub enum FileEntry<'a> {
     /// It is listed with these properties.
     Listed(&'a Fields),
@@ -24,7 +24,7 @@ pub enum FileEntry<'a> {
 }
 
 /// Files with their properties, and tables of values.
-#[derive(Debug, Drop)]
+#[derive(Drop)]
 pub struct Catalog {
     files: Option<ByName<File>>,
     tables: ByName<Table>,

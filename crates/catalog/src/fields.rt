@@ -16,7 +16,7 @@ use std::marker::Model;
 use value_json::{PartError, name_of, value_of};
 
 /// A property with its value.
-#[derive(Debug, Drop)]
+#[derive(Drop)]
 pub(crate) struct Field {
     name: Symbol,
     value: Value,
@@ -62,7 +62,7 @@ impl FromMember for Field {
 }
 
 /// The properties of a file, which contracts see as the list of them, ascending by name.
-#[derive(Debug, Drop)]
+#[derive(Drop)]
 pub struct Fields {
     by_name: ByName<Field>,
 }

@@ -14,7 +14,7 @@ use std::marker::Model;
 use value_json::{PartError, name_of};
 
 /// A file that is listed.
-#[derive(Debug, Drop)]
+#[derive(Drop)]
 pub(crate) struct File {
     name: Symbol,
     fields: Fields,

@@ -20,7 +20,7 @@ use std::marker::Model;
 use value_json::{FromItem, PartError, items_of, list_of, only_two_members, value_of};
 
 /// A row of a table.
-#[derive(Debug, Drop)]
+#[derive(Drop)]
 pub(crate) struct Row {
     keys: Vec<Symbol>,
     value: Value,
@@ -115,7 +115,7 @@ fn find_row<'a>(rows: &'a [Row], keys: &[Symbol]) -> Option<&'a Row>
 }
 
 /// The rows of a table. Their keys differ, and ascend by bytes.
-#[derive(Debug, Drop)]
+#[derive(Drop)]
 pub(crate) struct Rows {
     rows: Vec<Row>,
 }

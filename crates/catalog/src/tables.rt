@@ -15,7 +15,7 @@ use std::marker::Model;
 use value_json::{PartError, name_of};
 
 /// A table of values.
-#[derive(Debug, Drop)]
+#[derive(Drop)]
 pub(crate) struct Table {
     name: Symbol,
     rows: Rows,

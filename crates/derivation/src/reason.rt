@@ -21,7 +21,7 @@ pub enum Reason {
 }
 
 /// An equation between two terms, by their numbers.
-#[derive(Clone, Copy, PartialEq, Eq, Debug)]
+#[derive(Clone, Copy, PartialEq, Eq)]
 pub struct Line {
     pub left: usize,
     pub right: usize,

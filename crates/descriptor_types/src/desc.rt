@@ -15,7 +15,7 @@ use std::marker::Model;
 
 /// A value for each declared property, by its place. Where it fits a layout, numbers and costs are
 /// at most 10^18.
-#[derive(Debug, Drop)]
+#[derive(Drop)]
 pub struct Desc {
     values: Vec<Value>,
 }

@@ -7,7 +7,7 @@ use std::alloc::Global;
 use std::marker::Model;
 
 /// The properties with their kinds, in the order of declaration.
-#[derive(Debug, Drop)]
+#[derive(Drop)]
 pub struct Layout {
     properties: Vec<Property>,
 }

@@ -5,7 +5,7 @@ use std::alloc::Global;
 use std::marker::Model;
 
 /// Which properties are meant, by their places.
-#[derive(Debug, Drop)]
+#[derive(Drop)]
 pub struct Mask {
     on: Vec<bool>,
 }

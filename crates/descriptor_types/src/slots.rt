@@ -6,7 +6,7 @@ use std::alloc::Global;
 
 /// What a rule sees of what its left side matched: the descriptors of the nodes, whole, and the
 /// views of the streams, each in the order of the text.
-#[derive(Debug, Drop)]
+#[derive(Drop)]
 pub struct Slots {
     pub nodes: Items<Desc>,
     pub streams: Items<Desc>,

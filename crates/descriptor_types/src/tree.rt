@@ -10,7 +10,7 @@ use pr_value::{Items, Memory, Symbol};
 use std::alloc::Global;
 
 /// A file, or an operator, by its place of declaration from 0, over its inputs.
-#[derive(Debug, Drop)]
+#[derive(Drop)]
 pub enum Tree {
     File {
         name: Symbol,

@@ -2,10 +2,10 @@
 use Rattle.std.proofs.Common.{◌≡◌, ℕ, suc, ◌+◌, ◌<◌, Bool, true, false, cond, ◌||◌, List, [], ◌∷◌, ◌++◌, length, map, take, get_or, refl, ap, sym, ◌∙◌, arith}
 use Rattle.std.proofs.lemmas.List.{length-map, length-take-le, map_more}
 use Rattle.std.specs.List.{list_any}
-use Rattle.rule_syntax.specs.Roles.{is_enforcer, leads_to_null}
-use Rattle.rule_syntax.specs.Seen.{seen_operator}
-use Rattle.rule_syntax.specs.Syntax.{IRule}
-use Rattle.rule_syntax.specs.declared.parts.Operator as rust
+use Rattle.rule_ast.specs.Roles.{is_enforcer, leads_to_null}
+use Rattle.rule_ast.specs.Seen.{seen_operator}
+use Rattle.rule_ast.specs.Syntax.{IRule}
+use Rattle.rule_ast.specs.declared.parts.Operator as rust
 use Rattle.enforcer_find.specs.Enforcers.{has_any, has_null, places, places_from, rules_of}
 
 joined : (b : Bool) (n : ℕ) (ns ms : List ℕ) → cond b (n ∷ (ns ++ ms)) (ns ++ ms) ≡ cond b (n ∷ ns) ns ++ ms

@@ -1,17 +1,17 @@
 ghost use Rattle.std.specs.Prelude.{◌≡◌, ◌<◌, [], ◌∷◌, ◌++◌, Some, length, map, option_map, slice_get, if◌then◌else◌, IfOk, OnOk};
-ghost use Rattle.rule_syntax.specs.Roles.{is_enforcer, is_null, leads_to_null};
-ghost use Rattle.rule_syntax.specs.Seen.{seen_irule, seen_operator};
-ghost use Rattle.rule_syntax.specs.SeenRules.{seen_rules};
+ghost use Rattle.rule_ast.specs.Roles.{is_enforcer, is_null, leads_to_null};
+ghost use Rattle.rule_ast.specs.Seen.{seen_irule, seen_operator};
+ghost use Rattle.rule_ast.specs.SeenRules.{seen_rules};
 ghost use Rattle.enforcer_find.specs.Enforcers as spec;
 ghost use Rattle.enforcer_find.specs.Enforcers.{has_null, operator_rules, places};
 
 use pr_value::{Items, Memory, Symbol};
-use rule_syntax::{AlgName, IRule, Operator, Rules};
+use rule_ast::{AlgName, IRule, Operator, Rules};
 use std::alloc::Global;
 use std::marker::Model;
 
 /// The numbers of the I-rules of an operator, ascending.
-#[derive(Debug, Drop)]
+#[derive(Drop)]
 pub struct OperatorRules {
     /// Those that lead to `Null`.
     pub null_rules: Items<usize>,
@@ -20,7 +20,7 @@ pub struct OperatorRules {
 }
 
 /// The rules of each operator of a rule set, seen as the list of them in the order of declaration.
-#[derive(Debug, Drop)]
+#[derive(Drop)]
 pub struct Enforcers {
     operators: Items<OperatorRules>,
 }
@@ -41,7 +41,7 @@ fn is_null(alg: &AlgName) -> bool
 }
 
 // Whether the rule leads from the operator to `Null`.
-#[tactic(auto, using(rule_syntax::proofs::RoleLaws::root_laws))]
+#[tactic(auto, using(rule_ast::proofs::RoleLaws::root_laws))]
 fn leads_to_null(rule: &IRule, op: &Symbol) -> bool
     ensures { result ≡ leads_to_null op.now (seen_irule rule.now) }
 {
@@ -49,7 +49,7 @@ fn leads_to_null(rule: &IRule, op: &Symbol) -> bool
 }
 
 // Whether the rule leads from the operator to an algorithm.
-#[tactic(auto, using(rule_syntax::proofs::RoleLaws::root_laws))]
+#[tactic(auto, using(rule_ast::proofs::RoleLaws::root_laws))]
 fn leads_to_algorithm(rule: &IRule, op: &Symbol) -> bool
     ensures { result ≡ spec.leads_to_algorithm op.now (seen_irule rule.now) }
 {

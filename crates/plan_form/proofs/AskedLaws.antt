@@ -19,12 +19,12 @@ use Rattle.descriptor_types.specs.Descriptors.{Desc, Mask, asked_of, fits, value
 use Rattle.descriptor_types.specs.Labels.{Label, file, operator, ask}
 use Rattle.property_classes.specs.Classes as classes
 use Rattle.property_classes.specs.Classes.{classes_of}
-use Rattle.rule_syntax.specs.CostForms.{cost_name}
-use Rattle.rule_syntax.specs.Roles.{class_of}
-use Rattle.rule_syntax.specs.Syntax.{Rules}
-use Rattle.rule_syntax.specs.Typing.{property_kind}
-use Rattle.rule_syntax.specs.declared.roles.PropertyClass.{PropertyClass}
-use Rattle.rule_syntax.specs.declared.roles.PropertyClass.TheVariants as class
+use Rattle.rule_ast.specs.CostForms.{cost_name}
+use Rattle.rule_ast.specs.Roles.{class_of}
+use Rattle.rule_ast.specs.Syntax.{Rules}
+use Rattle.rule_ast.specs.Typing.{property_kind}
+use Rattle.rule_ast.specs.declared.roles.PropertyClass.{PropertyClass}
+use Rattle.rule_ast.specs.declared.roles.PropertyClass.TheVariants as class
 use Rattle.rule_types.proofs.AcceptedCosts.{accepted-one_cost}
 use Rattle.rule_types.specs.Conditions.{refused_by}
 use Rattle.query_tree.specs.Trees.{IsDesc, IsTree, AreTrees}

@@ -12,7 +12,7 @@ use Rattle.pr_value.specs.declared.value.Value.{Value}
 use Rattle.pr_value.specs.declared.value.Value.TheVariants as value
 use Rattle.descriptor_types.proofs.PlaceLaws.{place_of-position, with_value-at}
 use Rattle.descriptor_types.specs.Descriptors.{Desc, Layout, place_of, value_of, with_value}
-use Rattle.rule_syntax.specs.CostForms.{cost_name}
+use Rattle.rule_ast.specs.CostForms.{cost_name}
 
 -- ---- the value of a name, at its place
 

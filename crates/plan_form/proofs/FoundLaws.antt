@@ -12,9 +12,9 @@ use Rattle.descriptor_types.specs.Labels.{Label, ask, seen_tree}
 use Rattle.descriptor_types.specs.declared.tree.Tree as rust_tree
 use Rattle.property_classes.specs.Classes as classes
 use Rattle.property_classes.specs.Classes.{classes_of}
-use Rattle.rule_syntax.specs.Spelled.{spells}
-use Rattle.rule_syntax.specs.Syntax.{Rules}
-use Rattle.rule_syntax.specs.declared.roles.PropertyClass.{PropertyClass}
+use Rattle.rule_ast.specs.Spelled.{spells}
+use Rattle.rule_ast.specs.Syntax.{Rules}
+use Rattle.rule_ast.specs.declared.roles.PropertyClass.{PropertyClass}
 use Rattle.rule_types.specs.Conditions.{refused_by}
 use Rattle.action_eval.specs.Cost.{IStep, is_over}
 use Rattle.action_eval.specs.SeenForms.{seen_step}

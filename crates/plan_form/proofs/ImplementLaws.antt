@@ -9,9 +9,9 @@ use Rattle.pr_value.specs.Trees.{Tree, Trees, node, nil, cons, inputs, list_of, 
 use Rattle.catalog.specs.Contents.{Catalog}
 use Rattle.descriptor_types.specs.Descriptors.{Desc}
 use Rattle.descriptor_types.specs.Labels.{Label}
-use Rattle.rule_syntax.specs.CostForms.{cost_name}
-use Rattle.rule_syntax.specs.Spelled.{spells}
-use Rattle.rule_syntax.specs.Syntax.{Rules}
+use Rattle.rule_ast.specs.CostForms.{cost_name}
+use Rattle.rule_ast.specs.Spelled.{spells}
+use Rattle.rule_ast.specs.Syntax.{Rules}
 use Rattle.rule_types.specs.Conditions.{refused_by}
 use Rattle.action_eval.proofs.CostLaws.{cost_in_cap}
 use Rattle.action_eval.specs.Cost.{IStep, cost_of}

@@ -15,9 +15,9 @@ use Rattle.pr_value.specs.declared.value.Value.TheVariants as value
 use Rattle.catalog.specs.Contents.{Catalog}
 use Rattle.descriptor_types.specs.Descriptors.{Desc, Layout, fits, value_of, with_value}
 use Rattle.descriptor_types.specs.Labels.{Label}
-use Rattle.rule_syntax.specs.CostForms.{cost_name}
-use Rattle.rule_syntax.specs.Syntax.{Rules}
-use Rattle.rule_syntax.specs.Typing.{property_kind}
+use Rattle.rule_ast.specs.CostForms.{cost_name}
+use Rattle.rule_ast.specs.Syntax.{Rules}
+use Rattle.rule_ast.specs.Typing.{property_kind}
 use Rattle.rule_types.proofs.AcceptedCosts.{accepted-one_cost}
 use Rattle.rule_types.specs.Conditions.{refused_by}
 use Rattle.action_eval.specs.Cost.{IStep, cost_of}

@@ -6,7 +6,7 @@ use Rattle.pr_value.specs.Capped.{cap}
 use Rattle.pr_value.specs.Symbols.{Symbol}
 use Rattle.pr_value.specs.Trees.{tree}
 use Rattle.descriptor_types.specs.Descriptors.{Desc}
-use Rattle.rule_syntax.specs.Syntax.{Rules}
+use Rattle.rule_ast.specs.Syntax.{Rules}
 use Rattle.action_eval.specs.Cost.{IStep}
 use Rattle.plan_form.specs.Plans.{Plan, file, algorithm, cost, costed, plan_by, plan_level, seen_plan}
 use Rattle.plan_form.specs.declared.plan.Plan as rust

@@ -9,8 +9,8 @@ use Rattle.pr_value.proofs.Shelf.{option_and_then-some, option_map-some}
 use Rattle.pr_value.specs.Capped.{cap}
 use Rattle.pr_value.specs.Trees.{Tree, Trees, node, nil, cons, list_of, inputs}
 use Rattle.descriptor_types.specs.Labels.{Label, file, operator}
-use Rattle.rule_syntax.specs.Spelled.{is_free, spells_left, spells_left_ins}
-use Rattle.rule_syntax.specs.Syntax.{LeftLabel, Rules}
+use Rattle.rule_ast.specs.Spelled.{is_free, spells_left, spells_left_ins}
+use Rattle.rule_ast.specs.Syntax.{LeftLabel, Rules}
 use Rattle.rule_types.specs.AcceptedLaws.{is_flat, is_stream}
 use Rattle.rule_types.specs.Conditions.{same_numbers}
 use Rattle.rule_types.specs.Uses.{streams, streams_of}

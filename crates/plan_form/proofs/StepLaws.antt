@@ -9,10 +9,10 @@ use Rattle.pr_value.proofs.Shelf.{option_and_then-some, option_map-some}
 use Rattle.pr_value.specs.Trees.{Tree, inputs}
 use Rattle.catalog.specs.Contents.{Catalog}
 use Rattle.descriptor_types.specs.Labels.{Label}
-use Rattle.rule_syntax.specs.Descs.{names_of}
-use Rattle.rule_syntax.specs.Spelled.{spells, spells_irule, spells_left}
-use Rattle.rule_syntax.specs.Syntax.{IRule, Rules}
-use Rattle.rule_syntax.specs.declared.sides.ImplIn.{ImplIn}
+use Rattle.rule_ast.specs.Descs.{names_of}
+use Rattle.rule_ast.specs.Spelled.{spells, spells_irule, spells_left}
+use Rattle.rule_ast.specs.Syntax.{IRule, Rules}
+use Rattle.rule_ast.specs.declared.sides.ImplIn.{ImplIn}
 use Rattle.rule_types.proofs.AcceptedSides.{accepted-sides}
 use Rattle.rule_types.specs.AcceptedLaws.{is_flat, is_sound_irule}
 use Rattle.rule_types.specs.Conditions.{refused_by, same_numbers}

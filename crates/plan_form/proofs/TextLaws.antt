@@ -8,7 +8,7 @@ use Rattle.pr_value.specs.Trees.{tree, trees_of}
 use Rattle.pr_value.specs.declared.property.Property.{Property}
 use Rattle.pr_value.specs.declared.value.Value.{Value}
 use Rattle.descriptor_types.specs.Descriptors.{Desc, Layout}
-use Rattle.rule_syntax.specs.Syntax.{Rules}
+use Rattle.rule_ast.specs.Syntax.{Rules}
 use Rattle.plan_form.proofs.PairLaws.{zip-more, zip-all, read-at}
 use Rattle.plan_form.specs.Plans.{Plan, algorithm}
 use Rattle.plan_form.specs.PlanText.{algorithm_name, all_shown, inner, inputs_text, line, node_text, shown}

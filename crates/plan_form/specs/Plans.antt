@@ -8,8 +8,8 @@ use Rattle.catalog.specs.Contents.{Catalog, entry}
 use Rattle.descriptor_types.specs.Descriptors.{Desc, Mask, only, value_of, with_value}
 use Rattle.descriptor_types.specs.Labels.{Label, ask}
 use Rattle.descriptor_types.specs.Labels as label
-use Rattle.rule_syntax.specs.CostForms.{cost_name}
-use Rattle.rule_syntax.specs.Syntax.{IRule, Rules}
+use Rattle.rule_ast.specs.CostForms.{cost_name}
+use Rattle.rule_ast.specs.Syntax.{IRule, Rules}
 use Rattle.action_eval.specs.Cost.{IStep, cost_of}
 use Rattle.query_tree.specs.Matches.{Matched, matched}
 use Rattle.query_tree.specs.Query.{fields_in, file_desc}

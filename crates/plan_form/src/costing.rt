@@ -5,13 +5,13 @@ ghost use Rattle.descriptor_types.specs.Descriptors.{place_of, with_value};
 ghost use Rattle.pr_value.specs.declared.value.Value.TheVariants as value;
 ghost use Rattle.plan_form.specs.Plans as spec;
 ghost use Rattle.plan_form.specs.Plans.{desc_cost, seen_plan};
-ghost use Rattle.rule_syntax.specs.CostForms as costs;
-ghost use Rattle.rule_syntax.specs.SeenRules.{seen_rules};
+ghost use Rattle.rule_ast.specs.CostForms as costs;
+ghost use Rattle.rule_ast.specs.SeenRules.{seen_rules};
 
 use crate::plan::Plan;
 use descriptor_types::Desc;
 use pr_value::{Memory, Property, Value, number_in};
-use rule_syntax::{Rules, cost_name};
+use rule_ast::{Rules, cost_name};
 use rule_types::Accepted;
 use std::alloc::Global;
 

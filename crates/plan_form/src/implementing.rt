@@ -11,7 +11,7 @@ ghost use Rattle.pr_value.specs.Trees.{tree, trees_of};
 ghost use Rattle.property_classes.specs.Classes.{classes_of};
 ghost use Rattle.query_tree.specs.Steps as steps;
 ghost use Rattle.query_tree.specs.Trees.{AreTrees, IsTree};
-ghost use Rattle.rule_syntax.specs.SeenRules.{seen_rules};
+ghost use Rattle.rule_ast.specs.SeenRules.{seen_rules};
 
 use crate::costing::{costs_of, set_cost};
 use crate::plan::Plan;

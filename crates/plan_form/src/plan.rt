@@ -6,7 +6,7 @@ use std::alloc::Global;
 
 /// A file, or the algorithm of an I-rule, by the rule's place of declaration from 0, with its
 /// descriptor over the plans of its inputs.
-#[derive(Debug, Drop)]
+#[derive(Drop)]
 pub enum Plan {
     File {
         name: Symbol,

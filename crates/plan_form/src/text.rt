@@ -5,13 +5,13 @@ ghost use Rattle.std.specs.Option.{option_copied};
 ghost use Rattle.pr_value.specs.Trees.{trees_of};
 ghost use Rattle.plan_form.specs.PlanText as spec;
 ghost use Rattle.plan_form.specs.Plans.{desc_cost, seen_plan};
-ghost use Rattle.rule_syntax.specs.SeenRules.{seen_rules};
+ghost use Rattle.rule_ast.specs.SeenRules.{seen_rules};
 
 use crate::costing::{cost, desc_cost};
 use crate::plan::Plan;
 use descriptor_types::Desc;
 use pr_value::{Memory, Property, Symbol, Text, Value};
-use rule_syntax::{AlgName, Rules, is_cost};
+use rule_ast::{AlgName, Rules, is_cost};
 use rule_types::Accepted;
 use std::alloc::Global;
 use std::string::ToString;

@@ -9,8 +9,8 @@ use Rattle.descriptor_types.specs.Labels.{Label}
 use Rattle.descriptor_types.specs.Labels as label
 use Rattle.pr_value.specs.Symbols.{Symbol}
 use Rattle.pr_value.specs.Trees.{Tree, node, nil, cons, height, highest, tree, trees_of}
-use Rattle.rule_syntax.specs.Spelled.{spells}
-use Rattle.rule_syntax.specs.Syntax.{Rules}
+use Rattle.rule_ast.specs.Spelled.{spells}
+use Rattle.rule_ast.specs.Syntax.{Rules}
 use Rattle.rule_types.specs.Conditions.{refused_by}
 use Rattle.query_tree.specs.Steps.{i_step}
 use Rattle.query_tree.specs.Trees.{IsTree}

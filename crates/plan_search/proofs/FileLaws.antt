@@ -6,7 +6,7 @@ use Rattle.catalog.specs.Contents.{Catalog}
 use Rattle.descriptor_types.specs.Descriptors.{Desc}
 use Rattle.descriptor_types.specs.Labels.{Label}
 use Rattle.descriptor_types.specs.Labels as label
-use Rattle.rule_syntax.specs.Syntax.{Rules}
+use Rattle.rule_ast.specs.Syntax.{Rules}
 use Rattle.plan_form.specs.Plans.{Plan, PlanLabel, file, algorithm, Implements, cost}
 use Rattle.plan_form.specs.Plans as plans
 use Rattle.plan_search.specs.Search.{IsBestBelow}

@@ -7,7 +7,7 @@ use Rattle.pr_value.proofs.Shelf.{option_and_then-some}
 use Rattle.pr_value.specs.Trees.{Tree, node}
 use Rattle.catalog.specs.Contents.{Catalog}
 use Rattle.descriptor_types.specs.Labels.{Label}
-use Rattle.rule_syntax.specs.Syntax.{Rules}
+use Rattle.rule_ast.specs.Syntax.{Rules}
 use Rattle.plan_form.specs.Plans.{Plan, file, algorithm, cost, Implements, IsAnswer}
 use Rattle.plan_search.specs.Search.{IsLeast, lesser, IsBy, IsBelow, IsBestBy, IsBestBelow}
 

@@ -15,8 +15,8 @@ use Rattle.pr_value.specs.Values.{number_in}
 use Rattle.pr_value.specs.declared.property.Property.{Property}
 use Rattle.pr_value.specs.declared.value.Value.{Value}
 use Rattle.pr_value.specs.declared.value.Value.TheVariants as value
-use Rattle.rule_syntax.specs.CostForms.{cost_name}
-use Rattle.rule_syntax.specs.Syntax.{Rules}
+use Rattle.rule_ast.specs.CostForms.{cost_name}
+use Rattle.rule_ast.specs.Syntax.{Rules}
 use Rattle.query_tree.specs.Steps.{i_step}
 use Rattle.plan_form.proofs.PlanByLaws.{plan_by-implements}
 use Rattle.plan_form.specs.Plans.{Plan, PlanLabel, file, algorithm, AllImplement, Best, Implements, NoPlan, asked_trees, cost, costed, desc_cost, matched_streams, plan_by}

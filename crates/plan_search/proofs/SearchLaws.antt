@@ -12,8 +12,8 @@ use Rattle.descriptor_types.specs.Labels.{Label, seen_tree}
 use Rattle.descriptor_types.specs.declared.tree.Tree as tree
 use Rattle.pr_value.specs.Capped.{cap}
 use Rattle.pr_value.specs.Trees.{Tree, height, highest, inputs, trees_of}
-use Rattle.rule_syntax.specs.Spelled.{spells}
-use Rattle.rule_syntax.specs.Syntax.{Rules}
+use Rattle.rule_ast.specs.Spelled.{spells}
+use Rattle.rule_ast.specs.Syntax.{Rules}
 use Rattle.rule_types.specs.Conditions.{refused_by}
 use Rattle.query_tree.specs.Steps.{i_step}
 use Rattle.query_tree.specs.Views.{physical}

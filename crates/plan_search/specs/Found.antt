@@ -7,7 +7,7 @@ use Rattle.descriptor_types.specs.declared.tree.Tree.{Tree}
 use Rattle.plan_form.specs.Plans.{IsAnswer, seen_plan}
 use Rattle.plan_form.specs.declared.plan.Plan.{Plan}
 use Rattle.plan_search.specs.declared.found.Found.{Found}
-use Rattle.rule_syntax.specs.Syntax.{Rules}
+use Rattle.rule_ast.specs.Syntax.{Rules}
 
 -- each answer is one of its tree
 abbrev pub AreFound : Rules → Catalog → List Found → Type 0

@@ -4,7 +4,7 @@ use Rattle.catalog.specs.Contents.{Catalog}
 use Rattle.descriptor_types.specs.Labels.{Label}
 use Rattle.plan_form.specs.Plans.{Plan, file, algorithm, cost, Implements, Best, NoPlan}
 use Rattle.pr_value.specs.Trees.{Tree, node}
-use Rattle.rule_syntax.specs.Syntax.{Rules}
+use Rattle.rule_ast.specs.Syntax.{Rules}
 
 -- a cheapest of such plans, or none where there is none
 abbrev pub IsLeast : (Plan → ℕ) → (Plan → Type 0) → Option Plan → Type 0

@@ -11,7 +11,7 @@ use std::alloc::Global;
 
 /// A part of the tree after what is asked of it, and its answer: a plan of least cost, or none. The
 /// level is how deep the part stands, and only spares comparing trees of other levels.
-#[derive(Debug, Drop)]
+#[derive(Drop)]
 pub(crate) struct Found {
     pub(crate) level: usize,
     pub(crate) tree: Tree,

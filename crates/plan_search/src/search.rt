@@ -10,7 +10,7 @@ ghost use Rattle.pr_value.specs.Trees.{inputs, trees_of};
 ghost use Rattle.property_classes.specs.Classes.{classes_of};
 ghost use Rattle.query_tree.specs.Trees.{AreTrees, IsTree};
 ghost use Rattle.query_tree.specs.Views.{physical};
-ghost use Rattle.rule_syntax.specs.SeenRules.{seen_rules};
+ghost use Rattle.rule_ast.specs.SeenRules.{seen_rules};
 
 use crate::found::{Found, copy_answer, keep, known};
 use catalog::Catalog;

@@ -19,7 +19,7 @@ use std::collections::VecDeque;
 use std::marker::Model;
 
 /// A shelf in memory whose fetches can be made to fail, for tests.
-#[derive(Debug, Drop)]
+#[derive(Drop)]
 pub struct MemShelf {
     files: VecDeque<(Name, Bytes)>,
     calls: u64,

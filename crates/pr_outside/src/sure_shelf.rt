@@ -17,7 +17,7 @@ use std::collections::VecDeque;
 use std::marker::Model;
 
 /// A shelf in memory that fails only at names that it does not hold.
-#[derive(Debug, Drop)]
+#[derive(Drop)]
 pub struct SureShelf {
     files: VecDeque<(Name, Bytes)>,
     faults: u64,

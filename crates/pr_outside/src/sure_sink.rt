@@ -5,7 +5,7 @@ use std::alloc::Global;
 use std::marker::Model;
 
 /// A sink in memory that never fails, which contracts see as what is written.
-#[derive(Debug, Drop)]
+#[derive(Drop)]
 pub struct SureSink {
     written: Vec<u8>,
 }

@@ -1,5 +1,5 @@
 /// The types of properties. A cost is a number.
-#[derive(Clone, Copy, PartialEq, Eq, Hash, Debug)]
+#[derive(Clone, Copy, PartialEq, Eq, Hash)]
 pub enum Kind {
     Num,
     Truth,

@@ -6,7 +6,7 @@ use crate::symbol::Symbol;
 use std::alloc::Global;
 
 /// A declared property.
-#[derive(PartialEq, Eq, Hash, Debug, Drop)]
+#[derive(PartialEq, Eq, Hash, Drop)]
 pub struct Property {
     pub name: Symbol,
     pub kind: Kind,

@@ -13,7 +13,7 @@ use std::hash::{Hash, Hasher};
 use std::marker::Model;
 
 /// A list of symbols.
-#[derive(Debug, Drop)]
+#[derive(Drop)]
 pub struct SymList {
     symbols: Vec<Symbol>,
 }

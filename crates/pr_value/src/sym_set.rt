@@ -13,7 +13,7 @@ use std::hash::{Hash, Hasher};
 use std::marker::Model;
 
 /// A set of symbols, which contracts see as the list of its members, ascending by bytes.
-#[derive(Debug, Drop)]
+#[derive(Drop)]
 pub struct SymSet {
     members: Vec<Symbol>,
 }

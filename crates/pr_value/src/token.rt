@@ -1,7 +1,7 @@
 use crate::symbol::Symbol;
 
 /// The marks of rule and query texts.
-#[derive(Clone, Copy, PartialEq, Eq, Debug)]
+#[derive(Clone, Copy, PartialEq, Eq)]
 pub enum Mark {
     OpenBrace,
     CloseBrace,
@@ -32,7 +32,7 @@ pub enum Mark {
 
 /// A token of a rule or query text: a name, a number of at most `CAP`, a symbol behind a quote, or
 /// a mark.
-#[derive(PartialEq, Eq, Debug, Drop)]
+#[derive(PartialEq, Eq, Drop)]
 pub enum Token {
     Name(Symbol),
     Number(u64),

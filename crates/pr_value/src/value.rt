@@ -13,7 +13,7 @@ use crate::text::Text;
 use std::alloc::Global;
 
 /// A value of a property.
-#[derive(Debug, Drop)]
+#[derive(Drop)]
 pub enum Value {
     Num(u64),
     Truth(bool),

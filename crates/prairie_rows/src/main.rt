@@ -2,30 +2,16 @@
 //! otherwise than they say.
 #![tactic(auto)]
 
-mod equal;
-mod listed;
-mod members;
-mod prints;
-mod reads;
-mod report;
-mod roles;
 mod runs;
-mod steps;
-mod terms;
-mod texts;
-mod tokens;
-mod trees;
-mod trouble;
-mod values;
 
-use report::Report;
+use row_texts::report::Report;
+use row_texts::texts::Texts;
+use row_texts::trouble::Trouble;
 use serde_json::Value as Json;
 use std::alloc::Global;
 use std::env::Env;
 use std::rt::Files;
 use std::{env, fs};
-use texts::Texts;
-use trouble::Trouble;
 
 fn main(rt: HostRuntime) -> Result<(), Trouble> {
     let report = report_of(&rt)?;
@@ -69,26 +55,26 @@ fn json_in<R: Files + AllocGlobal>(rt: &R, name: &str) -> Result<Json, Trouble> 
 
 /// Runs the tables of a file, by their kinds.
 fn tables(alloc: Global, file: &Json, texts: &Texts, report: &mut Report) -> Result<(), Trouble> {
-    for table in members::items(file, "runs") {
+    for table in row_texts::members::items(file, "runs") {
         runs::run_table(alloc, table, texts, report)?;
     }
-    for table in members::items(file, "reads") {
-        reads::read_table(alloc, table, texts, report)?;
+    for table in row_texts::members::items(file, "reads") {
+        row_syntax::reads::read_table(alloc, table, texts, report)?;
     }
-    for table in members::items(file, "tokens") {
-        tokens::token_table(alloc, table, report)?;
+    for table in row_texts::members::items(file, "tokens") {
+        row_syntax::tokens::token_table(alloc, table, report)?;
     }
-    for table in members::items(file, "values") {
-        values::value_table(alloc, table, texts, report)?;
+    for table in row_texts::members::items(file, "values") {
+        row_syntax::values::value_table(alloc, table, texts, report)?;
     }
-    for table in members::items(file, "prints") {
-        prints::print_table(alloc, table, texts, report)?;
+    for table in row_texts::members::items(file, "prints") {
+        row_syntax::prints::print_table(alloc, table, texts, report)?;
     }
-    for table in members::items(file, "roles") {
-        roles::role_table(alloc, table, texts, report)?;
+    for table in row_texts::members::items(file, "roles") {
+        row_syntax::roles::role_table(alloc, table, texts, report)?;
     }
-    for table in members::items(file, "steps") {
-        steps::step_table(alloc, table, texts, report)?;
+    for table in row_texts::members::items(file, "steps") {
+        row_trees::steps::step_table(alloc, table, texts, report)?;
     }
     Ok(())
 }

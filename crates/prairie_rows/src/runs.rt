@@ -1,10 +1,10 @@
 // Rows of runs: words and texts, with the status and the text that the run ends with.
-use crate::members::{array, items, said, said_number, string};
-use crate::report::Report;
-use crate::texts::Texts;
-use crate::trouble::Trouble;
 use pr_outside::{Bytes, MemShelf, MemSink, Name};
 use prairie_top::{Status, run};
+use row_texts::members::{array, items, said, said_number, string};
+use row_texts::report::Report;
+use row_texts::texts::Texts;
+use row_texts::trouble::Trouble;
 use serde_json::Value as Json;
 use std::alloc::Global;
 

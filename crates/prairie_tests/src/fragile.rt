@@ -8,7 +8,7 @@ use std::alloc::Global;
 use std::hash::{Hash, Hasher};
 
 /// A number as a label, of which there is no copy from 100 on.
-#[derive(Debug, Drop)]
+#[derive(Drop)]
 pub struct Fragile {
     pub value: u64,
 }

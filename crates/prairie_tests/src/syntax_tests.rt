@@ -1,6 +1,7 @@
 use pr_value::Text;
 use rule_lex::tokens;
-use rule_syntax::{Copied, Rules, print_rules, read_query, read_rules};
+use rule_ast::{Copied, Rules};
+use rule_syntax::{print_rules, read_query, read_rules};
 use std::alloc::Global;
 use std::process::Abort;
 

@@ -24,10 +24,10 @@ use Rattle.query_tree.specs.Refusals.{first_setting, is_wrong_file, is_wrong_set
 use Rattle.query_tree.specs.Scopes.{env_over, operator_scope}
 use Rattle.query_tree.specs.Trees.{AreTrees, IsDesc, IsTree}
 use Rattle.query_tree.specs.Views.{view_in}
-use Rattle.rule_syntax.specs.Descs.{operator_descs}
-use Rattle.rule_syntax.specs.Syntax.{Operator, Query, QueryLabel, Rules, Stmt, set, copy}
-use Rattle.rule_syntax.specs.Typing.{Context, is_typed_stmt, signatures_of}
-use Rattle.rule_syntax.specs.declared.query.Setting.{Setting}
+use Rattle.rule_ast.specs.Descs.{operator_descs}
+use Rattle.rule_ast.specs.Syntax.{Operator, Query, QueryLabel, Rules, Stmt, set, copy}
+use Rattle.rule_ast.specs.Typing.{Context, is_typed_stmt, signatures_of}
+use Rattle.rule_ast.specs.declared.query.Setting.{Setting}
 use Rattle.rule_types.proofs.AcceptedCosts.{accepted-one_cost}
 use Rattle.rule_types.specs.Conditions.{refused_by}
 

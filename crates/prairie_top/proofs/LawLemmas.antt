@@ -9,7 +9,7 @@ use Rattle.catalog.specs.Contents.{Catalog}
 use Rattle.catalog.specs.Shape.{IsJson, first_bad, OneCatalog}
 use Rattle.rule_lex.specs.Laws.{OneList, NeverBoth}
 use Rattle.rule_lex.specs.declared.error.LexError.TheVariants as lex
-use Rattle.rule_syntax.specs.Syntax.{Rules, Query}
+use Rattle.rule_ast.specs.Syntax.{Rules, Query}
 use Rattle.rule_syntax.specs.Tokens.{Text}
 use Rattle.rule_syntax.specs.DistinctRules.{DistinctRules}
 use Rattle.rule_syntax.specs.DistinctQueries.{DistinctQueries}

@@ -4,8 +4,8 @@ use Rattle.pr_outside.specs.Counts.{last_count, Still}
 use Rattle.pr_outside.specs.Files.{Files, held_under}
 use Rattle.catalog.specs.Contents.{Catalog}
 use Rattle.pr_value.specs.TokenTexts.{spaced}
-use Rattle.rule_syntax.specs.Syntax.{Rules, Query}
-use Rattle.rule_syntax.specs.Spelled.{spells}
+use Rattle.rule_ast.specs.Syntax.{Rules, Query}
+use Rattle.rule_ast.specs.Spelled.{spells}
 use Rattle.rule_syntax.specs.Tokens.{tokens_of}
 use Rattle.rule_types.specs.Conditions.{refused_by}
 use Rattle.plan_form.specs.Plans.{Plan, cost}

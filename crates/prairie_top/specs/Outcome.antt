@@ -6,7 +6,7 @@ use Rattle.catalog.specs.Contents.{Catalog}
 use Rattle.plan_form.specs.Plans.{Plan, Best, NoPlan}
 use Rattle.plan_form.specs.PlanText.{plan_text}
 use Rattle.query_tree.specs.Query.{query_tree}
-use Rattle.rule_syntax.specs.Syntax.{Rules, Query}
+use Rattle.rule_ast.specs.Syntax.{Rules, Query}
 use Rattle.prairie_top.specs.Messages.{usage_text, no_plan_text, memory_text}
 use Rattle.prairie_top.specs.Reading.{Reads, IsRefusedText, rules_grammar, query_grammar, ReadsCatalog, IsRefusedCatalog}
 use Rattle.prairie_top.specs.Run.{Fetches, Puts, Names, Command, plan, Means}

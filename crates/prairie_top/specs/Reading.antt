@@ -6,7 +6,7 @@ use Rattle.catalog.specs.Shape.{IsJson, first_bad, Says}
 use Rattle.pr_value.specs.declared.token.Token.{Token}
 use Rattle.rule_lex.specs.Lexes.{Lexes, Refuses as LexRefuses}
 use Rattle.rule_lex.specs.declared.error.LexError.TheVariants as lex
-use Rattle.rule_syntax.specs.Syntax.{Rules, Query}
+use Rattle.rule_ast.specs.Syntax.{Rules, Query}
 use Rattle.rule_syntax.specs.Tokens.{Text}
 use Rattle.rule_syntax.specs.Places.{IsPlace}
 use Rattle.rule_syntax.specs.Levels.{IsRules, IsQuery}

@@ -13,7 +13,7 @@ use Rattle.pr_value.specs.Trees.{Tree}
 use Rattle.query_tree.specs.Query.{query_tree}
 use Rattle.query_tree.specs.Trees.{IsTree}
 use Rattle.rule_lex.specs.Lexes.{Lexes}
-use Rattle.rule_syntax.specs.Syntax.{Rules, Query}
+use Rattle.rule_ast.specs.Syntax.{Rules, Query}
 use Rattle.prairie_top.specs.Run.{Fetches, Told}
 use Rattle.prairie_top.specs.Reading.{Grammar, IsSyntax}
 use Rattle.prairie_top.specs.Sources.{Within}

@@ -2,8 +2,8 @@
 ghost use Rattle.std.specs.Prelude.{◌≡◌, [], ⊤, Decides, IfOk};
 ghost use Rattle.descriptor_types.specs.Labels.{seen_tree};
 ghost use Rattle.rule_syntax.specs.Levels.{IsRules, IsQuery};
-ghost use Rattle.rule_syntax.specs.Seen.{seen_query};
-ghost use Rattle.rule_syntax.specs.SeenRules.{seen_rules};
+ghost use Rattle.rule_ast.specs.Seen.{seen_query};
+ghost use Rattle.rule_ast.specs.SeenRules.{seen_rules};
 ghost use Rattle.rule_syntax.specs.Tokens.{Text as SeenText};
 ghost use Rattle.prairie_top.specs.Reading.{HasNoTokens, Reads, IsRefusedText, rules_grammar, query_grammar, ReadsCatalog, IsRefusedCatalog};
 ghost use Rattle.prairie_top.specs.Stages.{IsReading, ArePlaced, IsOfTokens, IsAccepting, IsBuilt, of_accept_error, of_query_refusal};
@@ -17,7 +17,8 @@ use pr_value::{Memory, Tokens};
 use property_classes::Classes;
 use query_tree::{QueryRefusal, build};
 use rule_lex::{LexError, tokens};
-use rule_syntax::{QueryText, Rules, SyntaxError, read_query, read_rules};
+use rule_ast::{QueryText, Rules};
+use rule_syntax::{SyntaxError, read_query, read_rules};
 use rule_types::{AcceptError, Accepted, accept};
 use std::alloc::Global;
 

@@ -3,7 +3,7 @@ use pr_value::{Memory, Symbol};
 use rule_types::RefusalKind;
 
 /// Why a text is refused. Offsets are in bytes from the start of the text.
-#[derive(Debug, Drop)]
+#[derive(Drop)]
 pub enum Refusal {
     /// It has more bytes than such a text may have.
     TooLong,
@@ -42,14 +42,14 @@ pub enum Refusal {
 }
 
 /// Why bytes do not read as a value.
-#[derive(Debug, Drop)]
+#[derive(Drop)]
 pub enum TextError {
     Refused(Refusal),
     Memory,
 }
 
 /// Why a text that was asked for is not had.
-#[derive(Debug, Drop)]
+#[derive(Drop)]
 pub enum Stop {
     Refused(Refusal),
     /// Its fetch failed.

@@ -1,18 +1,18 @@
 ghost use Rattle.std.specs.Prelude.{◌≡◌, ◌<◌, ◌++◌, Some, length, map, option_map, slice_get, IfOk, OnOk};
-ghost use Rattle.rule_syntax.specs.Roles.{class_of};
-ghost use Rattle.rule_syntax.specs.SeenRules.{seen_rules};
+ghost use Rattle.rule_ast.specs.Roles.{class_of};
+ghost use Rattle.rule_ast.specs.SeenRules.{seen_rules};
 ghost use Rattle.property_classes.specs.Classes as spec;
 ghost use Rattle.property_classes.specs.Classes.{classes_of};
 
 use crate::reading::is_read_of_streams;
 use descriptor_types::Mask;
 use pr_value::{Items, Memory, Property};
-use rule_syntax::{PropertyClass, Rules, is_cost, is_physical};
+use rule_ast::{PropertyClass, Rules, is_cost, is_physical};
 use std::alloc::Global;
 use std::marker::Model;
 
 /// The class of each property of a rule set, seen as the list of them in the order of declaration.
-#[derive(Debug, Drop)]
+#[derive(Drop)]
 pub struct Classes {
     classes: Items<PropertyClass>,
     seen: Mask,
@@ -23,7 +23,7 @@ pub struct Classes {
 
 impl Model for Classes {
     ghost use Rattle.std.specs.Prelude.{List};
-    ghost use Rattle.rule_syntax.specs.declared.roles.PropertyClass.{PropertyClass};
+    ghost use Rattle.rule_ast.specs.declared.roles.PropertyClass.{PropertyClass};
 
     ghost Value = { List PropertyClass };
 

@@ -5,4 +5,4 @@ mod classes;
 mod reading;
 
 pub use classes::Classes;
-pub use rule_syntax::PropertyClass;
+pub use rule_ast::PropertyClass;

@@ -1,17 +1,14 @@
 // Which properties are read of views, streams and inputs.
 ghost use Rattle.std.specs.Prelude.{◌≡◌, ◌++◌, map, IfOk, OnOk};
 ghost use Rattle.std.specs.List.{list_any};
-ghost use Rattle.rule_syntax.specs.Descs as descs;
-ghost use Rattle.rule_syntax.specs.Roles as spec;
-ghost use Rattle.rule_syntax.specs.Roles.{any_read_in, of_these};
-ghost use Rattle.rule_syntax.specs.Seen.{seen_irule, seen_operator, seen_stmt, seen_trule};
-ghost use Rattle.rule_syntax.specs.SeenRules.{seen_rules};
+ghost use Rattle.rule_ast.specs.Descs as descs;
+ghost use Rattle.rule_ast.specs.Roles as spec;
+ghost use Rattle.rule_ast.specs.Roles.{any_read_in, of_these};
+ghost use Rattle.rule_ast.specs.Seen.{seen_irule, seen_operator, seen_stmt, seen_trule};
+ghost use Rattle.rule_ast.specs.SeenRules.{seen_rules};
 
 use pr_value::{Items, Memory, Symbol, contains};
-use rule_syntax::{
-    IRule, ImplIn, Operator, ReadQuestion, Rules, Stmt, TRule, any_read, any_read_of_body,
-    stream_descs,
-};
+use rule_ast::{IRule, ImplIn, Operator, ReadQuestion, Rules, Stmt, TRule, any_read, any_read_of_body, stream_descs};
 use std::alloc::Global;
 
 // A read of the property of one of these descriptors.

@@ -6,10 +6,10 @@ use Rattle.std.specs.Prelude.{◌&&◌, slice_get}
 use Rattle.std.proofs.lemmas.Bool.{not-true}
 use Rattle.pr_value.specs.Repeats.{are_distinct}
 use Rattle.pr_value.specs.Symbols.{Symbol}
-use Rattle.rule_syntax.specs.CostForms.{cost_name, is_cost_form, reads_cost_of}
-use Rattle.rule_syntax.specs.Descs.{names_of, trule_descs, irule_descs}
-use Rattle.rule_syntax.specs.Syntax.{Expr, TRule, IRule, Rules}
-use Rattle.rule_syntax.specs.Typing.{Context, signatures_of, type_of, is_type}
+use Rattle.rule_ast.specs.CostForms.{cost_name, is_cost_form, reads_cost_of}
+use Rattle.rule_ast.specs.Descs.{names_of, trule_descs, irule_descs}
+use Rattle.rule_ast.specs.Syntax.{Expr, TRule, IRule, Rules}
+use Rattle.rule_ast.specs.Typing.{Context, signatures_of, type_of, is_type}
 use Rattle.pr_value.specs.declared.kind.Kind.TheVariants as kind
 use Rattle.rule_types.proofs.AcceptedArities.{accepted-arities, accepted-known}
 use Rattle.rule_types.proofs.AcceptedCosts.{accepted-assigned, accepted-costs}

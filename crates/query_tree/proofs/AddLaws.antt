@@ -19,7 +19,7 @@ use Rattle.descriptor_types.specs.declared.tree.Tree.TheVariants as variant
 use Rattle.pr_value.proofs.Shelf.{cons-first, cons-rest}
 use Rattle.pr_value.specs.Symbols.{Symbol}
 use Rattle.pr_value.specs.Trees.{Tree, Trees, node, nil, cons, tree, list_of, trees_of, map_trees}
-use Rattle.rule_syntax.specs.Syntax.{Rules}
+use Rattle.rule_ast.specs.Syntax.{Rules}
 use Rattle.rule_types.specs.Conditions.{refused_by}
 use Rattle.rule_types.proofs.AcceptedArities.{accepted-arities}
 use Rattle.rule_types.proofs.AcceptedSides.{accepted-sides}

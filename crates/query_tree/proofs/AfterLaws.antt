@@ -14,11 +14,11 @@ use Rattle.descriptor_types.specs.Labels.{Label, file, operator}
 use Rattle.pr_value.proofs.Shelf.{option_map-some, option_and_then-some}
 use Rattle.pr_value.specs.Symbols.{Symbol}
 use Rattle.pr_value.specs.Trees.{Tree, node, Trees, nil, cons}
-use Rattle.rule_syntax.specs.Descs.{left_descs, lefts_descs, right_descs, trule_descs}
-use Rattle.rule_syntax.specs.Seen.{seen_trule}
-use Rattle.rule_syntax.specs.declared.parts.TRule as trule
-use Rattle.rule_syntax.specs.Syntax.{Body, Stmt, set, copy, LeftLabel, TRule, Rules}
-use Rattle.rule_syntax.specs.Typing.{Context, is_typed_stmt, signatures_of}
+use Rattle.rule_ast.specs.Descs.{left_descs, lefts_descs, right_descs, trule_descs}
+use Rattle.rule_ast.specs.Seen.{seen_trule}
+use Rattle.rule_ast.specs.declared.parts.TRule as trule
+use Rattle.rule_ast.specs.Syntax.{Body, Stmt, set, copy, LeftLabel, TRule, Rules}
+use Rattle.rule_ast.specs.Typing.{Context, is_typed_stmt, signatures_of}
 use Rattle.rule_types.specs.Conditions.{is_typed_body, refused_by}
 use Rattle.rule_types.specs.Uses.{streams, streams_of}
 use Rattle.query_tree.proofs.AcceptedFacts.{IsTRule, accepted-operators, trule_facts}

@@ -14,14 +14,14 @@ use Rattle.descriptor_types.specs.Labels.{Label, file, operator}
 use Rattle.pr_value.proofs.Shelf.{bytes_eq-same, option_and_then-some, option_map-some}
 use Rattle.pr_value.specs.Symbols.{Symbol}
 use Rattle.pr_value.specs.Trees.{Tree, Trees, node, label, trees_of}
-use Rattle.rule_syntax.specs.Roles.{is_enforcer}
-use Rattle.rule_syntax.specs.Seen.{seen_left_in, left_level, left_input_level, seen_right_in, right_level, right_input_level, seen_trule}
-use Rattle.rule_syntax.specs.Syntax.{LeftLabel, RightLabel, Operator, TRule, Rules}
-use Rattle.rule_syntax.specs.declared.parts.TRule as trule
-use Rattle.rule_syntax.specs.declared.sides.Left.{out-Left}
-use Rattle.rule_syntax.specs.declared.sides.LeftIn.TheFolds.{fold_out-Left}
-use Rattle.rule_syntax.specs.declared.sides.Right.{out-Right}
-use Rattle.rule_syntax.specs.declared.sides.RightIn.TheFolds.{fold_out-Right}
+use Rattle.rule_ast.specs.Roles.{is_enforcer}
+use Rattle.rule_ast.specs.Seen.{seen_left_in, left_level, left_input_level, seen_right_in, right_level, right_input_level, seen_trule}
+use Rattle.rule_ast.specs.Syntax.{LeftLabel, RightLabel, Operator, TRule, Rules}
+use Rattle.rule_ast.specs.declared.parts.TRule as trule
+use Rattle.rule_ast.specs.declared.sides.Left.{out-Left}
+use Rattle.rule_ast.specs.declared.sides.LeftIn.TheFolds.{fold_out-Left}
+use Rattle.rule_ast.specs.declared.sides.Right.{out-Right}
+use Rattle.rule_ast.specs.declared.sides.RightIn.TheFolds.{fold_out-Right}
 use Rattle.rule_types.specs.AcceptedLaws.{HasSoundSides, is_sound_trule}
 use Rattle.rule_types.specs.Conditions.{are_numbers_distinct}
 use Rattle.rule_types.specs.LaterConditions.{is_left_enforcer, is_right_enforcer}

@@ -25,17 +25,17 @@ use Rattle.pr_value.specs.Trees.{Tree, node}
 use Rattle.pr_value.specs.declared.kind.Kind.TheVariants as kind
 use Rattle.property_classes.specs.Classes as classes
 use Rattle.property_classes.specs.Classes.{classes_of}
-use Rattle.rule_syntax.specs.CostForms.{cost_name, is_cost_form, reads_cost_of}
-use Rattle.rule_syntax.specs.CostGiven.{cost_given}
-use Rattle.rule_syntax.specs.Seen.{seen_expr, seen_stmt}
-use Rattle.rule_syntax.specs.declared.expr.Expr as expr
-use Rattle.rule_syntax.specs.declared.expr.Stmt as stmt
+use Rattle.rule_ast.specs.CostForms.{cost_name, is_cost_form, reads_cost_of}
+use Rattle.rule_ast.specs.CostGiven.{cost_given}
+use Rattle.rule_ast.specs.Seen.{seen_expr, seen_stmt}
+use Rattle.rule_ast.specs.declared.expr.Expr as expr
+use Rattle.rule_ast.specs.declared.expr.Stmt as stmt
 use Rattle.std.specs.Option.{option_copied}
-use Rattle.rule_syntax.specs.Descs.{left_descs, lefts_descs, names_of, impl_descs, irule_descs}
-use Rattle.rule_syntax.specs.Roles.{class_of}
-use Rattle.rule_syntax.specs.Syntax.{Expr, number, LeftLabel, IRule, Rules, Stmt}
-use Rattle.rule_syntax.specs.Typing.{Context, signatures_of, type_of}
-use Rattle.rule_syntax.specs.declared.sides.ImplIn.{ImplIn}
+use Rattle.rule_ast.specs.Descs.{left_descs, lefts_descs, names_of, impl_descs, irule_descs}
+use Rattle.rule_ast.specs.Roles.{class_of}
+use Rattle.rule_ast.specs.Syntax.{Expr, number, LeftLabel, IRule, Rules, Stmt}
+use Rattle.rule_ast.specs.Typing.{Context, signatures_of, type_of}
+use Rattle.rule_ast.specs.declared.sides.ImplIn.{ImplIn}
 use Rattle.rule_types.specs.Conditions.{same_numbers}
 use Rattle.rule_types.specs.LaterConditions.{but_last, cost_of, holds_of}
 use Rattle.rule_types.specs.Uses.{streams}

@@ -2,14 +2,14 @@
 use Rattle.std.proofs.Common.{◌≡◌, ℕ, List, [], ◌∷◌, map, refl, sym, subst}
 use Rattle.pr_value.specs.Symbols.{Symbol}
 use Rattle.pr_value.specs.Trees.{Tree, Trees, node, nil, cons, trees_of}
-use Rattle.rule_syntax.specs.Seen.{seen_left, seen_left_in, left_level, left_input_level}
-use Rattle.rule_syntax.specs.Syntax.{LeftLabel}
-use Rattle.rule_syntax.specs.declared.sides.Left as left
-use Rattle.rule_syntax.specs.declared.sides.Left.{roll-Left}
-use Rattle.rule_syntax.specs.declared.sides.LeftIn as left_in
-use Rattle.rule_syntax.specs.declared.sides.LeftIn.{roll-LeftIn}
-use Rattle.rule_syntax.specs.declared.sides.LeftIn.TheOpen.{Left-F, LeftIn-F}
-use Rattle.rule_syntax.specs.declared.sides.LeftIn.TheFolds.{fold-roll-Left, fold-roll-LeftIn, ind-Left}
+use Rattle.rule_ast.specs.Seen.{seen_left, seen_left_in, left_level, left_input_level}
+use Rattle.rule_ast.specs.Syntax.{LeftLabel}
+use Rattle.rule_ast.specs.declared.sides.Left as left
+use Rattle.rule_ast.specs.declared.sides.Left.{roll-Left}
+use Rattle.rule_ast.specs.declared.sides.LeftIn as left_in
+use Rattle.rule_ast.specs.declared.sides.LeftIn.{roll-LeftIn}
+use Rattle.rule_ast.specs.declared.sides.LeftIn.TheOpen.{Left-F, LeftIn-F}
+use Rattle.rule_ast.specs.declared.sides.LeftIn.TheFolds.{fold-roll-Left, fold-roll-LeftIn, ind-Left}
 
 -- streams have no inputs
 abbrev mutual

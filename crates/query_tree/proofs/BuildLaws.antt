@@ -38,18 +38,18 @@ use Rattle.query_tree.specs.Scopes.{Scope, env_over, operator_scope}
 use Rattle.query_tree.specs.Steps.{operator_at}
 use Rattle.query_tree.specs.Trees.{IsDesc, IsFree, IsTree, AreTrees}
 use Rattle.query_tree.specs.Views.{seen, view_in}
-use Rattle.rule_syntax.specs.CostForms.{cost_name}
-use Rattle.rule_syntax.specs.Descs.{operator_descs}
+use Rattle.rule_ast.specs.CostForms.{cost_name}
+use Rattle.rule_ast.specs.Descs.{operator_descs}
 use Rattle.query_tree.specs.declared.refusal.QueryRefusal.{QueryRefusal}
 use Rattle.query_tree.specs.declared.refusal.QueryRefusal.TheVariants as refusal
-use Rattle.rule_syntax.proofs.SeenLaws.{seen_node}
-use Rattle.rule_syntax.specs.Seen.{seen_operator, seen_query}
-use Rattle.rule_syntax.specs.declared.parts.Operator as code
-use Rattle.rule_syntax.specs.Syntax.{QueryLabel, Operator, Query, Rules}
-use Rattle.rule_syntax.specs.Typing.{Context, is_typed_stmt, signatures_of}
-use Rattle.rule_syntax.specs.declared.query.QueryText as query
-use Rattle.rule_syntax.specs.declared.query.QueryText.TheVariants as queries
-use Rattle.rule_syntax.specs.declared.query.Setting.{Setting}
+use Rattle.rule_ast.proofs.SeenLaws.{seen_node}
+use Rattle.rule_ast.specs.Seen.{seen_operator, seen_query}
+use Rattle.rule_ast.specs.declared.parts.Operator as code
+use Rattle.rule_ast.specs.Syntax.{QueryLabel, Operator, Query, Rules}
+use Rattle.rule_ast.specs.Typing.{Context, is_typed_stmt, signatures_of}
+use Rattle.rule_ast.specs.declared.query.QueryText as query
+use Rattle.rule_ast.specs.declared.query.QueryText.TheVariants as queries
+use Rattle.rule_ast.specs.declared.query.Setting.{Setting}
 use Rattle.rule_types.proofs.AcceptedCosts.{accepted-assigned}
 use Rattle.rule_types.proofs.AcceptedNames.{accepted-descs, accepted-names}
 use Rattle.rule_types.proofs.AcceptedTypes.{accepted-types}

@@ -9,8 +9,8 @@ use Rattle.pr_value.specs.declared.value.Value.TheVariants as value
 use Rattle.catalog.specs.Contents.{Catalog}
 use Rattle.descriptor_types.specs.Descriptors.{Desc, value_of, with_value}
 use Rattle.descriptor_types.proofs.PlaceLaws.{value_of-with_other}
-use Rattle.rule_syntax.specs.CostForms.{cost_name}
-use Rattle.rule_syntax.specs.Syntax.{Stmt, set, copy, Rules}
+use Rattle.rule_ast.specs.CostForms.{cost_name}
+use Rattle.rule_ast.specs.Syntax.{Stmt, set, copy, Rules}
 use Rattle.rule_types.specs.LaterConditions.{assigns_cost}
 use Rattle.rule_types.specs.Uses.{any_use_in}
 use Rattle.action_eval.proofs.PlainLaws.{or_first, or_second}

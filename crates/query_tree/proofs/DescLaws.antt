@@ -10,7 +10,7 @@ use Rattle.catalog.specs.Contents.{Field, field}
 use Rattle.descriptor_types.specs.Descriptors.{Layout, Desc, place_of, plain, with_value}
 use Rattle.descriptor_types.proofs.PlaceLaws.{place_of-at}
 use Rattle.query_tree.specs.Query.{file_desc, literal_value, with_settings}
-use Rattle.rule_syntax.specs.declared.query.Setting.{Setting}
+use Rattle.rule_ast.specs.declared.query.Setting.{Setting}
 
 -- ---- files
 

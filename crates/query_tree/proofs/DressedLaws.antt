@@ -13,7 +13,7 @@ use Rattle.descriptor_types.specs.Descriptors.{fits}
 use Rattle.descriptor_types.specs.Labels.{Label, file, operator, desc_of}
 use Rattle.pr_value.proofs.Shelf.{option_map-some, option_and_then-some}
 use Rattle.pr_value.specs.Trees.{Tree, node, Trees, nil, cons, tree, input, with_input, list_of, trees_of, map_tree, map_trees}
-use Rattle.rule_syntax.specs.Syntax.{LeftLabel, RightLabel, Operator, TRule, Rules}
+use Rattle.rule_ast.specs.Syntax.{LeftLabel, RightLabel, Operator, TRule, Rules}
 use Rattle.rule_types.specs.Uses.{streams}
 use Rattle.query_tree.proofs.FoundLaws.{desc-IsTree, every-fits, matched-AreOf}
 use Rattle.query_tree.specs.Dressed.{all_made_in, all_streams_in, are_fit, dressed, dressed_rewritten, dressed_step, made_in, plain, stream_in, streams_in}

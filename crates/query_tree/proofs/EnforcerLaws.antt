@@ -17,14 +17,14 @@ use Rattle.pr_value.specs.Repeats.{are_distinct}
 use Rattle.pr_value.specs.Symbols.{Symbol}
 use Rattle.pr_value.specs.SymbolSets.{contains}
 use Rattle.pr_value.specs.Trees.{Tree, Trees, node, nil, cons, label, list_of}
-use Rattle.rule_syntax.specs.Roles.{has_root, is_enforcer, is_null, leads_to_null}
-use Rattle.rule_syntax.specs.Seen.{seen_irule, seen_operator}
-use Rattle.rule_syntax.specs.declared.parts.IRule as irule
-use Rattle.rule_syntax.specs.declared.parts.Operator as rust
-use Rattle.rule_syntax.specs.declared.sides.AlgName.{AlgName}
-use Rattle.rule_syntax.specs.declared.sides.AlgName.TheVariants as alg
-use Rattle.rule_syntax.specs.declared.parts.Algorithm.{Algorithm}
-use Rattle.rule_syntax.specs.Syntax.{LeftLabel, Operator, IRule, Rules}
+use Rattle.rule_ast.specs.Roles.{has_root, is_enforcer, is_null, leads_to_null}
+use Rattle.rule_ast.specs.Seen.{seen_irule, seen_operator}
+use Rattle.rule_ast.specs.declared.parts.IRule as irule
+use Rattle.rule_ast.specs.declared.parts.Operator as rust
+use Rattle.rule_ast.specs.declared.sides.AlgName.{AlgName}
+use Rattle.rule_ast.specs.declared.sides.AlgName.TheVariants as alg
+use Rattle.rule_ast.specs.declared.parts.Algorithm.{Algorithm}
+use Rattle.rule_ast.specs.Syntax.{LeftLabel, Operator, IRule, Rules}
 use Rattle.rule_types.specs.AcceptedLaws.{HasArities, HasSoundSides, is_flat, is_sound_irule, is_stream}
 use Rattle.rule_types.specs.Conditions.{algorithm_takes, are_numbers_distinct, operator_names, same_numbers, takes, wrong_in_irule, wrong_left}
 use Rattle.rule_types.specs.Uses.{any_node, any_nodes, streams, streams_of}

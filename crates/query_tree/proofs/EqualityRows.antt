@@ -13,9 +13,9 @@ use Rattle.pr_value.specs.Trees.{Tree, tree, label, inputs, with_input, of_input
 use Rattle.pr_value.specs.declared.kind.Kind.TheVariants as kind
 use Rattle.pr_value.specs.declared.value.Value.TheVariants as value
 use Rattle.pr_value.proofs.TreeLaws.{tree_of_parts}
-use Rattle.rule_syntax.specs.Syntax.{LeftLabel, RightLabel, Operator, Body, TRule, IRule, Rules}
-use Rattle.rule_syntax.specs.Syntax as syntax
-use Rattle.rule_syntax.specs.declared.sides.AlgName.TheVariants as alg
+use Rattle.rule_ast.specs.Syntax.{LeftLabel, RightLabel, Operator, Body, TRule, IRule, Rules}
+use Rattle.rule_ast.specs.Syntax as syntax
+use Rattle.rule_ast.specs.declared.sides.AlgName.TheVariants as alg
 use Rattle.query_tree.specs.Equality as spec
 use Rattle.query_tree.specs.Equality.{Met, Equal, Spent, Full, IsHigher, LoopAt, enforces, is_counted, is_enforcing}
 use Rattle.query_tree.specs.Goals.{Goal, root, below, physical_in}

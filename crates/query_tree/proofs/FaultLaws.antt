@@ -8,9 +8,9 @@ use Rattle.catalog.specs.Contents.{Catalog}
 use Rattle.query_tree.specs.Faultless.{IsRight, IsFaultless, AreFaultless}
 use Rattle.query_tree.specs.Refusals.{Part, parts, parts_of, Condition, first_named, most_nodes, unknown_operator, unknown_file, wrong_arity, unknown_property, wrong_type, told, refusal_of}
 use Rattle.query_tree.specs.declared.refusal.QueryRefusal.TheVariants as refusal
-use Rattle.rule_syntax.specs.Syntax.{QueryLabel, Rules, Query}
-use Rattle.rule_syntax.specs.Seen.{seen_query}
-use Rattle.rule_syntax.specs.declared.query.QueryText as query
+use Rattle.rule_ast.specs.Syntax.{QueryLabel, Rules, Query}
+use Rattle.rule_ast.specs.Seen.{seen_query}
+use Rattle.rule_ast.specs.declared.query.QueryText as query
 
 or_none : {A : Type 0} (o p : Option A) → option_or o p ≡ None → (o ≡ None) × (p ≡ None)
 or_none None p is = (refl, is)

@@ -23,9 +23,9 @@ use Rattle.descriptor_types.proofs.FitLaws.{fits-only}
 use Rattle.descriptor_types.specs.Descriptors.{Desc, Mask, fits, only, value_of}
 use Rattle.descriptor_types.specs.Labels.{Label, file, operator, desc_of}
 use Rattle.property_classes.specs.Classes.{classes_of, is_seen}
-use Rattle.rule_syntax.specs.CostForms.{cost_name}
-use Rattle.rule_syntax.specs.Roles.{class_of}
-use Rattle.rule_syntax.specs.Syntax.{LeftLabel, Rules}
+use Rattle.rule_ast.specs.CostForms.{cost_name}
+use Rattle.rule_ast.specs.Roles.{class_of}
+use Rattle.rule_ast.specs.Syntax.{LeftLabel, Rules}
 use Rattle.rule_types.specs.Uses.{streams}
 use Rattle.query_tree.specs.Applied.{IsFound}
 use Rattle.query_tree.specs.Found.{Found, Tells, nothing}

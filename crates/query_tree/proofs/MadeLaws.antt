@@ -19,10 +19,10 @@ use Rattle.pr_value.specs.Repeats.{are_distinct}
 use Rattle.pr_value.specs.Symbols.{Symbol}
 use Rattle.pr_value.specs.SymbolSets.{contains}
 use Rattle.pr_value.specs.Trees.{Tree, Trees, node, nil, cons, list_of, trees_of}
-use Rattle.rule_syntax.specs.Descs.{right_descs, rights_descs}
-use Rattle.rule_syntax.specs.Seen.{seen_right_in}
-use Rattle.rule_syntax.specs.declared.sides.RightIn as right_in
-use Rattle.rule_syntax.specs.Syntax.{RightLabel, Operator, Rules}
+use Rattle.rule_ast.specs.Descs.{right_descs, rights_descs}
+use Rattle.rule_ast.specs.Seen.{seen_right_in}
+use Rattle.rule_ast.specs.declared.sides.RightIn as right_in
+use Rattle.rule_ast.specs.Syntax.{RightLabel, Operator, Rules}
 use Rattle.rule_types.specs.Conditions.{has_number, is_unknown_right, operator_names, wrong_right}
 use Rattle.rule_types.specs.Uses.{any_node, any_nodes}
 use Rattle.query_tree.proofs.BuildLaws.{stands-takes}

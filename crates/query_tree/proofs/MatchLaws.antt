@@ -8,15 +8,15 @@ use Rattle.descriptor_types.specs.Labels.{Label, operator, seen_tree}
 use Rattle.descriptor_types.proofs.SeenLaws.{seen_node}
 use Rattle.descriptor_types.specs.declared.tree.Tree as rust
 use Rattle.descriptor_types.specs.declared.tree.Tree.TheVariants as variant
-use Rattle.rule_syntax.specs.Descs.{left_descs, lefts_descs}
-use Rattle.rule_syntax.specs.Seen.{seen_left, seen_left_in, left_level, left_input_level}
-use Rattle.rule_syntax.specs.declared.sides.Left as left
-use Rattle.rule_syntax.specs.declared.sides.Left.{out-Left}
-use Rattle.rule_syntax.specs.declared.sides.LeftIn.TheFolds.{fold_out-Left, fold-roll-LeftIn}
-use Rattle.rule_syntax.specs.declared.sides.LeftIn.TheOpen.{LeftIn-F}
-use Rattle.rule_syntax.specs.declared.sides.LeftIn.TheVariants as ins
-use Rattle.rule_syntax.specs.Syntax.{LeftLabel, Rules}
-use Rattle.rule_syntax.specs.declared.sides.LeftIn as left_in
+use Rattle.rule_ast.specs.Descs.{left_descs, lefts_descs}
+use Rattle.rule_ast.specs.Seen.{seen_left, seen_left_in, left_level, left_input_level}
+use Rattle.rule_ast.specs.declared.sides.Left as left
+use Rattle.rule_ast.specs.declared.sides.Left.{out-Left}
+use Rattle.rule_ast.specs.declared.sides.LeftIn.TheFolds.{fold_out-Left, fold-roll-LeftIn}
+use Rattle.rule_ast.specs.declared.sides.LeftIn.TheOpen.{LeftIn-F}
+use Rattle.rule_ast.specs.declared.sides.LeftIn.TheVariants as ins
+use Rattle.rule_ast.specs.Syntax.{LeftLabel, Rules}
+use Rattle.rule_ast.specs.declared.sides.LeftIn as left_in
 use Rattle.rule_types.specs.Uses.{streams, streams_of}
 use Rattle.query_tree.specs.Found.{Found, Tells, TellsAll}
 use Rattle.query_tree.specs.Matches.{Matched, matched, all_matched, and_match, no_match, with_node, is_named}

@@ -10,12 +10,12 @@ use Rattle.catalog.specs.Contents.{field}
 use Rattle.query_tree.specs.Refusals.{Part, parts, parts_of, is_wrong_field}
 use Rattle.query_tree.specs.SeenParts.{seen_part}
 use Rattle.query_tree.specs.declared.parts.Part as rust
-use Rattle.rule_syntax.specs.Syntax.{QueryLabel}
-use Rattle.rule_syntax.specs.Seen.{seen_query}
-use Rattle.rule_syntax.proofs.SeenLaws.{seen_node}
-use Rattle.rule_syntax.specs.declared.query.QueryText as query
-use Rattle.rule_syntax.specs.declared.query.QueryText.TheVariants as queries
-use Rattle.rule_syntax.specs.declared.query.Setting.{Setting}
+use Rattle.rule_ast.specs.Syntax.{QueryLabel}
+use Rattle.rule_ast.specs.Seen.{seen_query}
+use Rattle.rule_ast.proofs.SeenLaws.{seen_node}
+use Rattle.rule_ast.specs.declared.query.QueryText as query
+use Rattle.rule_ast.specs.declared.query.QueryText.TheVariants as queries
+use Rattle.rule_ast.specs.declared.query.Setting.{Setting}
 
 pub inputs_of-list : (qs : List query.QueryText) → length (list_of (trees_of (map seen_query qs))) ≡ length qs
 inputs_of-list qs = ap length (list_of_trees_of (map seen_query qs)) ∙ length-map qs seen_query

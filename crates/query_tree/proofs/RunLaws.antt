@@ -20,10 +20,10 @@ use Rattle.pr_value.proofs.Shelf.{option_map-some}
 use Rattle.pr_value.proofs.ZipLaws.{firsts}
 use Rattle.pr_value.specs.Symbols.{Symbol}
 use Rattle.pr_value.specs.Values.{truth_in}
-use Rattle.rule_syntax.specs.CostForms.{cost_name}
-use Rattle.rule_syntax.specs.Descs.{left_descs, right_descs, trule_descs}
-use Rattle.rule_syntax.specs.Syntax.{Body, TRule, Rules}
-use Rattle.rule_syntax.specs.Typing.{Context, signatures_of}
+use Rattle.rule_ast.specs.CostForms.{cost_name}
+use Rattle.rule_ast.specs.Descs.{left_descs, right_descs, trule_descs}
+use Rattle.rule_ast.specs.Syntax.{Body, TRule, Rules}
+use Rattle.rule_ast.specs.Typing.{Context, signatures_of}
 use Rattle.rule_types.specs.Conditions.{is_typed_body}
 use Rattle.rule_types.specs.LaterConditions.{assigns_cost}
 use Rattle.rule_types.specs.Uses.{any_use_of}

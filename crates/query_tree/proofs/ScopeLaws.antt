@@ -11,7 +11,7 @@ use Rattle.pr_value.specs.Symbols.{Symbol}
 use Rattle.descriptor_types.specs.Descriptors.{Desc, Layout, fits}
 use Rattle.action_eval.proofs.BindLaws.{bound_all-new}
 use Rattle.action_eval.specs.Environments.{IsSound, bound_desc, bound_all}
-use Rattle.rule_syntax.specs.Syntax.{Rules}
+use Rattle.rule_ast.specs.Syntax.{Rules}
 use Rattle.rule_types.proofs.AcceptedTypes.{accepted-types}
 use Rattle.rule_types.specs.Conditions.{refused_by}
 use Rattle.query_tree.specs.Scopes.{Scope, env_over}

@@ -24,10 +24,10 @@ use Rattle.descriptor_types.proofs.PlaceLaws.{value_of-with_other}
 use Rattle.query_tree.specs.Query.{file_desc, literal_value, with_settings}
 use Rattle.query_tree.specs.Refusals.{is_wrong_for, is_wrong_field, is_wrong_file, is_wrong_setting, first_setting}
 use Rattle.query_tree.specs.Trees.{IsDesc}
-use Rattle.rule_syntax.specs.CostForms.{cost_name, is_cost}
-use Rattle.rule_syntax.specs.Syntax.{Rules}
-use Rattle.rule_syntax.specs.Typing.{property_kind}
-use Rattle.rule_syntax.specs.declared.query.Setting.{Setting}
+use Rattle.rule_ast.specs.CostForms.{cost_name, is_cost}
+use Rattle.rule_ast.specs.Syntax.{Rules}
+use Rattle.rule_ast.specs.Typing.{property_kind}
+use Rattle.rule_ast.specs.declared.query.Setting.{Setting}
 use Rattle.rule_types.specs.AcceptedLaws.{HasOneCost}
 
 -- ---- the defaults

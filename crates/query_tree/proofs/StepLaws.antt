@@ -15,8 +15,8 @@ use Rattle.pr_value.specs.Repeats.{are_distinct}
 use Rattle.pr_value.specs.Symbols.{Symbol}
 use Rattle.pr_value.specs.SymbolSets.{contains}
 use Rattle.pr_value.specs.Trees.{Tree}
-use Rattle.rule_syntax.specs.Descs.{left_descs, right_descs, trule_descs}
-use Rattle.rule_syntax.specs.Syntax.{LeftLabel, TRule, IRule, Rules}
+use Rattle.rule_ast.specs.Descs.{left_descs, right_descs, trule_descs}
+use Rattle.rule_ast.specs.Syntax.{LeftLabel, TRule, IRule, Rules}
 use Rattle.rule_types.specs.Conditions.{is_unknown_right, operator_names}
 use Rattle.rule_types.specs.Uses.{any_node, streams}
 use Rattle.query_tree.proofs.AcceptedFacts.{IsTRule, contains-map, slice_get-map}

@@ -13,14 +13,14 @@ use Rattle.derivation.specs.declared.terms.Term.{Term}
 use Rattle.descriptor_types.specs.Descriptors.{Desc}
 use Rattle.descriptor_types.specs.Labels.{operator}
 use Rattle.pr_value.specs.Trees.{Tree, Trees, nil, cons, tree, list_of, trees_of}
-use Rattle.rule_syntax.specs.Seen.{seen_right, seen_right_in, right_level, right_input_level}
-use Rattle.rule_syntax.specs.Syntax.{RightLabel, Rules}
-use Rattle.rule_syntax.specs.declared.sides.Right as right
-use Rattle.rule_syntax.specs.declared.sides.Right.{out-Right}
-use Rattle.rule_syntax.specs.declared.sides.RightIn as right_in
-use Rattle.rule_syntax.specs.declared.sides.RightIn.TheFolds.{fold_out-Right, fold-roll-RightIn}
-use Rattle.rule_syntax.specs.declared.sides.RightIn.TheOpen.{RightIn-F}
-use Rattle.rule_syntax.specs.declared.sides.RightIn.TheVariants as ins
+use Rattle.rule_ast.specs.Seen.{seen_right, seen_right_in, right_level, right_input_level}
+use Rattle.rule_ast.specs.Syntax.{RightLabel, Rules}
+use Rattle.rule_ast.specs.declared.sides.Right as right
+use Rattle.rule_ast.specs.declared.sides.Right.{out-Right}
+use Rattle.rule_ast.specs.declared.sides.RightIn as right_in
+use Rattle.rule_ast.specs.declared.sides.RightIn.TheFolds.{fold_out-Right, fold-roll-RightIn}
+use Rattle.rule_ast.specs.declared.sides.RightIn.TheOpen.{RightIn-F}
+use Rattle.rule_ast.specs.declared.sides.RightIn.TheVariants as ins
 use Rattle.rule_types.proofs.AcceptedArities.{accepted-arities}
 use Rattle.rule_types.proofs.AcceptedSides.{accepted-sides}
 use Rattle.rule_types.specs.Conditions.{has_number, refused_by, wrong_right}

@@ -8,13 +8,13 @@ use Rattle.descriptor_types.specs.Descriptors.{Desc, only}
 use Rattle.descriptor_types.specs.Labels.{desc_in}
 use Rattle.pr_value.specs.Symbols.{Symbol}
 use Rattle.pr_value.specs.Trees.{Tree, Trees, node, nil, cons, tree, trees_of, map_trees}
-use Rattle.rule_syntax.specs.Descs.{left_descs, lefts_descs}
-use Rattle.rule_syntax.specs.Seen.{seen_left, seen_left_in, left_level, left_input_level}
-use Rattle.rule_syntax.specs.declared.sides.Left as left
-use Rattle.rule_syntax.specs.declared.sides.Left.{out-Left}
-use Rattle.rule_syntax.specs.declared.sides.LeftIn as left_in
-use Rattle.rule_syntax.specs.declared.sides.LeftIn.TheFolds.{fold_out-Left}
-use Rattle.rule_syntax.specs.Syntax.{LeftLabel, Rules}
+use Rattle.rule_ast.specs.Descs.{left_descs, lefts_descs}
+use Rattle.rule_ast.specs.Seen.{seen_left, seen_left_in, left_level, left_input_level}
+use Rattle.rule_ast.specs.declared.sides.Left as left
+use Rattle.rule_ast.specs.declared.sides.Left.{out-Left}
+use Rattle.rule_ast.specs.declared.sides.LeftIn as left_in
+use Rattle.rule_ast.specs.declared.sides.LeftIn.TheFolds.{fold_out-Left}
+use Rattle.rule_ast.specs.Syntax.{LeftLabel, Rules}
 use Rattle.rule_types.specs.Uses.{streams, streams_of}
 use Rattle.query_tree.proofs.MatchLaws.{at_place, zip-append}
 use Rattle.query_tree.specs.Dressed.{all_streams_in, plain, streams_in}

@@ -13,8 +13,8 @@ use Rattle.descriptor_types.specs.Descriptors.{Layout, fits}
 use Rattle.descriptor_types.specs.Labels.{Label, desc_of}
 use Rattle.pr_value.proofs.ZipLaws.{firsts, seconds}
 use Rattle.pr_value.specs.Trees.{Tree, trees_of}
-use Rattle.rule_syntax.specs.Descs.{left_descs}
-use Rattle.rule_syntax.specs.Syntax.{LeftLabel, TRule, Rules}
+use Rattle.rule_ast.specs.Descs.{left_descs}
+use Rattle.rule_ast.specs.Syntax.{LeftLabel, TRule, Rules}
 use Rattle.rule_types.specs.Uses.{streams}
 use Rattle.query_tree.proofs.DressedLaws.{streams_in-map, streams_in-matched}
 use Rattle.query_tree.specs.Dressed.{are_fit, dressed_rewritten, dressed_step, made_in, plain, streams_in}

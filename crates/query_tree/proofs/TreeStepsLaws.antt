@@ -4,9 +4,9 @@ use Rattle.std.proofs.Props.{props}
 use Rattle.catalog.specs.Contents.{Catalog}
 use Rattle.descriptor_types.specs.Descriptors.{Layout}
 use Rattle.property_classes.specs.Classes.{classes_of}
-use Rattle.rule_syntax.specs.declared.roles.PropertyClass.{PropertyClass}
-use Rattle.rule_syntax.specs.SeenRules.{seen_rules}
-use Rattle.rule_syntax.specs.declared.rule_set.Rules as code
+use Rattle.rule_ast.specs.declared.roles.PropertyClass.{PropertyClass}
+use Rattle.rule_ast.specs.SeenRules.{seen_rules}
+use Rattle.rule_ast.specs.declared.rule_set.Rules as code
 use Rattle.rule_types.specs.Conditions.{refused_by}
 use Rattle.query_tree.specs.declared.tree_steps.TreeSteps.{TreeSteps}
 

@@ -6,8 +6,8 @@ use Rattle.pr_value.specs.Trees.{Tree}
 use Rattle.action_eval.specs.Environments.{Env, IsSound, names_bound}
 use Rattle.catalog.specs.Contents.{Catalog}
 use Rattle.descriptor_types.specs.Labels.{Label}
-use Rattle.rule_syntax.specs.Descs.{left_descs}
-use Rattle.rule_syntax.specs.Syntax.{LeftLabel, TRule, IRule, Rules}
+use Rattle.rule_ast.specs.Descs.{left_descs}
+use Rattle.rule_ast.specs.Syntax.{LeftLabel, TRule, IRule, Rules}
 use Rattle.rule_types.specs.Uses.{streams}
 use Rattle.query_tree.specs.Found.{Found}
 use Rattle.query_tree.specs.Scopes.{Scope, irule_scope}

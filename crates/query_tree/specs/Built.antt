@@ -7,8 +7,8 @@ use Rattle.descriptor_types.specs.Labels.{Label, operator}
 use Rattle.query_tree.specs.Query.{initial_desc, operator_named}
 use Rattle.query_tree.specs.Steps.{operator_at}
 use Rattle.query_tree.specs.Views.{view_in}
-use Rattle.rule_syntax.specs.declared.query.Setting.{Setting}
-use Rattle.rule_syntax.specs.Syntax.{Rules}
+use Rattle.rule_ast.specs.declared.query.Setting.{Setting}
+use Rattle.rule_ast.specs.Syntax.{Rules}
 
 -- the operator of that name, with the descriptor that its initializer leaves
 abbrev pub built_operator : Rules → Catalog → Symbol → List Setting → List (Tree Label) → Tree Label

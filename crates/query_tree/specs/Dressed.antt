@@ -5,7 +5,7 @@ use Rattle.pr_value.specs.Trees.{Tree, node, Trees, nil, cons, tree, map_tree}
 use Rattle.catalog.specs.Contents.{Catalog}
 use Rattle.descriptor_types.specs.Descriptors.{fits}
 use Rattle.descriptor_types.specs.Labels.{Label, file, operator, desc_of}
-use Rattle.rule_syntax.specs.Syntax.{LeftLabel, RightLabel, Operator, TRule, Rules}
+use Rattle.rule_ast.specs.Syntax.{LeftLabel, RightLabel, Operator, TRule, Rules}
 use Rattle.rule_types.specs.Uses.{streams}
 use Rattle.action_eval.specs.Meaning.{desc_in}
 use Rattle.query_tree.specs.Matches.{Matched, matched}

@@ -4,7 +4,7 @@ use Rattle.pr_value.specs.Trees.{Tree}
 use Rattle.catalog.specs.Contents.{Catalog}
 use Rattle.derivation.specs.Joined as derivation
 use Rattle.descriptor_types.specs.Labels.{Label}
-use Rattle.rule_syntax.specs.Syntax.{Rules}
+use Rattle.rule_ast.specs.Syntax.{Rules}
 use Rattle.query_tree.specs.Dressed.{dressed, dressed_step}
 use Rattle.query_tree.specs.Equality.{Joined}
 use Rattle.query_tree.specs.Steps.{step}

@@ -3,7 +3,7 @@ use Rattle.std.specs.Prelude.{◌≡◌, ℕ, None, Some, length, slice_get, ⊤
 use Rattle.pr_value.specs.Trees.{node, Trees, nil, cons, list_of}
 use Rattle.catalog.specs.Contents.{Catalog}
 use Rattle.query_tree.specs.Refusals.{unknown_operator, unknown_file, wrong_arity, unknown_property, wrong_type}
-use Rattle.rule_syntax.specs.Syntax.{QueryLabel, Operator, Rules, Query}
+use Rattle.rule_ast.specs.Syntax.{QueryLabel, Operator, Rules, Query}
 
 -- nothing is at fault at a node
 pub record IsRight (r : Rules) (c : Catalog) (l : QueryLabel) (n : ℕ) : Type 0 where

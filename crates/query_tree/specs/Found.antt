@@ -3,8 +3,8 @@ use Rattle.std.specs.Prelude.{◌≡◌, ℕ, Bool, true, false, List, [], ◌++
 use Rattle.pr_value.specs.Trees.{Tree, trees_of}
 use Rattle.descriptor_types.specs.Descriptors.{Desc}
 use Rattle.descriptor_types.specs.Labels.{Label}
-use Rattle.rule_syntax.specs.Descs.{left_descs, lefts_descs}
-use Rattle.rule_syntax.specs.Syntax.{LeftLabel, Rules}
+use Rattle.rule_ast.specs.Descs.{left_descs, lefts_descs}
+use Rattle.rule_ast.specs.Syntax.{LeftLabel, Rules}
 use Rattle.rule_types.specs.Uses.{streams, streams_of}
 use Rattle.query_tree.specs.Matches.{Matched, matched, all_matched}
 

@@ -4,8 +4,8 @@ use Rattle.derivation.specs.Stands.{Stands, StandAll}
 use Rattle.derivation.specs.declared.terms.Term.{Term}
 use Rattle.pr_value.specs.Trees.{Tree, Trees, trees_of, map_trees}
 use Rattle.descriptor_types.specs.Descriptors.{Desc}
-use Rattle.rule_syntax.specs.Descs.{left_descs, lefts_descs}
-use Rattle.rule_syntax.specs.Syntax.{LeftLabel, Rules}
+use Rattle.rule_ast.specs.Descs.{left_descs, lefts_descs}
+use Rattle.rule_ast.specs.Syntax.{LeftLabel, Rules}
 use Rattle.rule_types.specs.Uses.{streams, streams_of}
 use Rattle.query_tree.specs.Dressed.{plain, streams_in, all_streams_in}
 use Rattle.query_tree.specs.Matches.{Matched, matched, all_matched}

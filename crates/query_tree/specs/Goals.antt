@@ -5,7 +5,7 @@ use Rattle.action_eval.specs.Cost.{IStep}
 use Rattle.catalog.specs.Contents.{Catalog}
 use Rattle.descriptor_types.specs.Descriptors.{Desc, only}
 use Rattle.descriptor_types.specs.Labels.{Label, desc_of, ask}
-use Rattle.rule_syntax.specs.Syntax.{Rules}
+use Rattle.rule_ast.specs.Syntax.{Rules}
 use Rattle.query_tree.specs.Equality.{Equal}
 use Rattle.query_tree.specs.Steps.{i_step}
 use Rattle.query_tree.specs.Views.{physical}

@@ -10,10 +10,10 @@ use Rattle.pr_value.specs.declared.value.Value.TheVariants as value
 use Rattle.catalog.specs.Contents.{Field, Entry, listed, free, unknown, Catalog, field, entry}
 use Rattle.descriptor_types.specs.Descriptors.{Desc, Layout, plain, with_value}
 use Rattle.descriptor_types.specs.Labels.{Label, file, operator}
-use Rattle.rule_syntax.specs.declared.query.Literal.{Literal}
-use Rattle.rule_syntax.specs.declared.query.Literal.TheVariants as literal
-use Rattle.rule_syntax.specs.declared.query.Setting.{Setting}
-use Rattle.rule_syntax.specs.Syntax.{QueryLabel, Operator, Rules, Query}
+use Rattle.rule_ast.specs.declared.query.Literal.{Literal}
+use Rattle.rule_ast.specs.declared.query.Literal.TheVariants as literal
+use Rattle.rule_ast.specs.declared.query.Setting.{Setting}
+use Rattle.rule_ast.specs.Syntax.{QueryLabel, Operator, Rules, Query}
 use Rattle.action_eval.specs.Environments.{after}
 use Rattle.action_eval.specs.Meaning.{desc_in}
 use Rattle.query_tree.specs.Scopes.{env_over, operator_scope}

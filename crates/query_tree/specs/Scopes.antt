@@ -4,9 +4,9 @@ use Rattle.pr_value.specs.Symbols.{Symbol}
 use Rattle.pr_value.specs.Values.{truth_in}
 use Rattle.catalog.specs.Contents.{Catalog}
 use Rattle.descriptor_types.specs.Descriptors.{Desc, plain}
-use Rattle.rule_syntax.specs.CostGiven.{last_of}
-use Rattle.rule_syntax.specs.Descs.{left_descs, right_descs, names_of}
-use Rattle.rule_syntax.specs.Syntax.{Body, Operator, TRule, IRule, Rules}
+use Rattle.rule_ast.specs.CostGiven.{last_of}
+use Rattle.rule_ast.specs.Descs.{left_descs, right_descs, names_of}
+use Rattle.rule_ast.specs.Syntax.{Body, Operator, TRule, IRule, Rules}
 use Rattle.action_eval.specs.Environments.{Env, after, value_here}
 
 -- descriptors under their names

@@ -2,7 +2,7 @@
 use Rattle.query_tree.specs.Refusals.{Part}
 use Rattle.query_tree.specs.declared.parts.Part as rust
 use Rattle.query_tree.specs.declared.parts.Part.TheVariants as part
-use Rattle.rule_syntax.specs.Syntax.{QueryLabel}
+use Rattle.rule_ast.specs.Syntax.{QueryLabel}
 
 abbrev pub seen_part : rust.Part → Part
 seen_part (part.File name) = record { label = QueryLabel.file name.now; inputs = 0 }

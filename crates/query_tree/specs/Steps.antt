@@ -6,9 +6,9 @@ use Rattle.pr_value.specs.Trees.{Tree, node, Trees, nil, cons, tree}
 use Rattle.catalog.specs.Contents.{Catalog}
 use Rattle.descriptor_types.specs.Descriptors.{Desc, only}
 use Rattle.descriptor_types.specs.Labels.{Label, file, operator}
-use Rattle.rule_syntax.specs.CostForms.{cost_name}
-use Rattle.rule_syntax.specs.Descs.{names_of}
-use Rattle.rule_syntax.specs.Syntax.{Expr, number, RightLabel, Operator, TRule, IRule, Rules}
+use Rattle.rule_ast.specs.CostForms.{cost_name}
+use Rattle.rule_ast.specs.Descs.{names_of}
+use Rattle.rule_ast.specs.Syntax.{Expr, number, RightLabel, Operator, TRule, IRule, Rules}
 use Rattle.rule_types.specs.LaterConditions.{cost_of, but_last}
 use Rattle.rule_types.specs.Uses.{streams}
 use Rattle.action_eval.specs.Cost.{IStep}

@@ -6,7 +6,7 @@ use Rattle.derivation.specs.Stands.{Stands}
 use Rattle.derivation.specs.declared.terms.Term.{Term}
 use Rattle.descriptor_types.specs.Descriptors.{Desc}
 use Rattle.pr_value.specs.Trees.{Tree}
-use Rattle.rule_syntax.specs.Syntax.{TRule, Rules}
+use Rattle.rule_ast.specs.Syntax.{TRule, Rules}
 use Rattle.query_tree.specs.Dressed.{dressed_rewritten, plain}
 use Rattle.query_tree.specs.Matches.{matched}
 use Rattle.query_tree.specs.Steps.{trule_run}

@@ -4,7 +4,7 @@ use Rattle.derivation.specs.Stands.{Stands, StandAll}
 use Rattle.derivation.specs.declared.terms.Term.{Term}
 use Rattle.descriptor_types.specs.Labels.{Label}
 use Rattle.pr_value.specs.Trees.{Tree, Trees, trees_of}
-use Rattle.rule_syntax.specs.Syntax.{RightLabel, Rules}
+use Rattle.rule_ast.specs.Syntax.{RightLabel, Rules}
 use Rattle.query_tree.specs.Dressed.{all_made_in, made_in, stream_in}
 use Rattle.query_tree.specs.Scopes.{Scope}
 use Rattle.query_tree.specs.TreeLabels.{dressed_label}

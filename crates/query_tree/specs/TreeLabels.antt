@@ -6,7 +6,7 @@ use Rattle.descriptor_types.specs.Descriptors.{Desc, only, same_desc, hashed_des
 use Rattle.descriptor_types.specs.Labels.{Label, file, operator}
 use Rattle.pr_value.specs.Hashed.{hashed_symbol}
 use Rattle.pr_value.specs.Values.{same_truth}
-use Rattle.rule_syntax.specs.Syntax.{Rules}
+use Rattle.rule_ast.specs.Syntax.{Rules}
 use Rattle.query_tree.specs.Equality.{enforces}
 use Rattle.query_tree.specs.Views.{seen}
 use Rattle.query_tree.specs.declared.labels.TreeLabel.{TreeLabel}

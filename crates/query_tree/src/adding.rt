@@ -7,7 +7,7 @@ ghost use Rattle.pr_value.specs.Trees.{trees_of};
 ghost use Rattle.property_classes.specs.Classes.{classes_of};
 ghost use Rattle.query_tree.specs.Dressed.{dressed};
 ghost use Rattle.query_tree.specs.Trees.{IsTree, AreTrees};
-ghost use Rattle.rule_syntax.specs.SeenRules.{seen_rules};
+ghost use Rattle.rule_ast.specs.SeenRules.{seen_rules};
 
 use crate::dressing::{Dressing, file_label, node_label};
 use crate::labels::TreeLabel;

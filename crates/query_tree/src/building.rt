@@ -14,9 +14,9 @@ ghost use Rattle.query_tree.specs.Refusals.{IsTold, first_setting, is_wrong_sett
 ghost use Rattle.query_tree.specs.Scopes.{env_over, operator_scope};
 ghost use Rattle.query_tree.specs.Trees.{IsDesc, IsTree, AreTrees};
 ghost use Rattle.query_tree.specs.Views.{view_in};
-ghost use Rattle.rule_syntax.specs.Seen.{seen_operator, seen_query};
-ghost use Rattle.rule_syntax.specs.SeenRules.{seen_rules};
-ghost use Rattle.rule_syntax.specs.Syntax.{QueryLabel};
+ghost use Rattle.rule_ast.specs.Seen.{seen_operator, seen_query};
+ghost use Rattle.rule_ast.specs.SeenRules.{seen_rules};
+ghost use Rattle.rule_ast.specs.Syntax.{QueryLabel};
 
 use crate::descs::desc_of;
 use crate::files::listed_desc;
@@ -31,7 +31,7 @@ use catalog::Catalog;
 use descriptor_types::{Desc, Layout, Tree, push_views};
 use pr_value::{Items, Memory, Symbol};
 use property_classes::Classes;
-use rule_syntax::{Operator, QueryText, Setting, operator_descs};
+use rule_ast::{Operator, QueryText, Setting, operator_descs};
 use rule_types::Accepted;
 use std::alloc::Global;
 

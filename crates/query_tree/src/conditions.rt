@@ -8,16 +8,16 @@ ghost use Rattle.query_tree.specs.Query.{fields_in, literal_value};
 ghost use Rattle.query_tree.specs.Refusals as spec;
 ghost use Rattle.query_tree.specs.Refusals.{Condition};
 ghost use Rattle.query_tree.specs.SeenParts.{seen_part};
-ghost use Rattle.rule_syntax.specs.Seen.{seen_operator};
-ghost use Rattle.rule_syntax.specs.SeenRules.{seen_rules};
-ghost use Rattle.rule_syntax.specs.Typing as typing;
+ghost use Rattle.rule_ast.specs.Seen.{seen_operator};
+ghost use Rattle.rule_ast.specs.SeenRules.{seen_rules};
+ghost use Rattle.rule_ast.specs.Typing as typing;
 ghost use Rattle.rule_types.specs.Conditions as declared;
 
 use crate::literals::has_kind;
 use crate::parts::Part;
 use catalog::{Catalog, Fields, FileEntry};
 use pr_value::{Kind, Property, Symbol, Value};
-use rule_syntax::{Literal, Operator, Rules, Setting, is_cost};
+use rule_ast::{Literal, Operator, Rules, Setting, is_cost};
 
 /// A question on a node: what is at fault there, or nothing.
 pub(crate) trait Question {

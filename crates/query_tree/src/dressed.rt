@@ -1,6 +1,6 @@
 // Laws of trees of labels that hold their views.
 ghost use Rattle.query_tree.specs.DressedLaws.{StepsKeepTrees, JoinedAreTrees, StepsAreDressed, DressedAreJoined};
-ghost use Rattle.rule_syntax.specs.SeenRules.{seen_rules};
+ghost use Rattle.rule_ast.specs.SeenRules.{seen_rules};
 
 use catalog::Catalog;
 use rule_types::Accepted;

@@ -5,9 +5,9 @@ ghost use Rattle.enforcer_find.specs.Enforcers.{has_null};
 ghost use Rattle.property_classes.specs.Classes.{classes_of};
 ghost use Rattle.query_tree.specs.Equality as spec;
 ghost use Rattle.query_tree.specs.TreeLabels.{dressed_label};
-ghost use Rattle.rule_syntax.specs.Roles.{is_enforcer};
-ghost use Rattle.rule_syntax.specs.Seen.{seen_irule};
-ghost use Rattle.rule_syntax.specs.SeenRules.{seen_rules};
+ghost use Rattle.rule_ast.specs.Roles.{is_enforcer};
+ghost use Rattle.rule_ast.specs.Seen.{seen_irule};
+ghost use Rattle.rule_ast.specs.SeenRules.{seen_rules};
 ghost use Rattle.rule_types.specs.Conditions.{refused_by};
 
 use crate::labels::TreeLabel;
@@ -15,7 +15,7 @@ use descriptor_types::{Desc, Layout};
 use enforcer_find::Enforcers;
 use pr_value::{Memory, Symbol};
 use property_classes::Classes;
-use rule_syntax::Rules;
+use rule_ast::Rules;
 use std::alloc::Global;
 
 /// Accepted rules, with the layout and the classes of their properties, and their enforcers.

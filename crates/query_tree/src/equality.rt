@@ -1,6 +1,6 @@
 // Laws of trees that are joined.
 ghost use Rattle.query_tree.specs.EqualityLaws.{QuietDepthIsFinal, AlikeAreJoined, EnforcersStayApart, CountDecidesFull};
-ghost use Rattle.rule_syntax.specs.SeenRules.{seen_rules};
+ghost use Rattle.rule_ast.specs.SeenRules.{seen_rules};
 
 use catalog::Catalog;
 use rule_types::Accepted;

@@ -15,9 +15,9 @@ ghost use Rattle.query_tree.specs.SeenFound.{seen_found, seen_stream};
 ghost use Rattle.query_tree.specs.Steps as spec;
 ghost use Rattle.query_tree.specs.Trees.{IsTree};
 ghost use Rattle.query_tree.specs.Views.{view_in};
-ghost use Rattle.rule_syntax.specs.Descs as descs;
-ghost use Rattle.rule_syntax.specs.Seen.{seen_irule, seen_left};
-ghost use Rattle.rule_syntax.specs.SeenRules.{seen_rules};
+ghost use Rattle.rule_ast.specs.Descs as descs;
+ghost use Rattle.rule_ast.specs.Seen.{seen_irule, seen_left};
+ghost use Rattle.rule_ast.specs.SeenRules.{seen_rules};
 ghost use Rattle.rule_types.specs.LaterConditions.{but_last};
 
 use crate::descs::desc_of;
@@ -29,7 +29,7 @@ use catalog::Catalog;
 use descriptor_types::{Desc, Layout, Tree};
 use pr_value::{Items, Memory};
 use property_classes::Classes;
-use rule_syntax::{IRule, cost_given, cost_name, irule_descs, names_of};
+use rule_ast::{IRule, cost_given, cost_name, irule_descs, names_of};
 use rule_types::Accepted;
 use std::alloc::Global;
 

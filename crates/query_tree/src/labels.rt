@@ -12,7 +12,7 @@ use std::hash::{Hash, Hasher};
 
 /// A file, or an operator by its place of declaration from 0, with its descriptor, the view of that,
 /// and whether the operator is an enforcer.
-#[derive(Debug, Drop)]
+#[derive(Drop)]
 pub enum TreeLabel {
     File {
         name: Symbol,

@@ -4,7 +4,7 @@ ghost use Rattle.pr_value.specs.Values as values;
 ghost use Rattle.query_tree.specs.Query as spec;
 
 use pr_value::{CAP, Items, Kind, Memory, SymList, SymSet, Symbol, Value, copy_symbols};
-use rule_syntax::Literal;
+use rule_ast::Literal;
 use std::alloc::Global;
 
 /// Whether the value is of the kind. It takes no memory.

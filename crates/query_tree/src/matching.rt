@@ -5,13 +5,13 @@ ghost use Rattle.query_tree.specs.Found.{Tells, TellsAll, TellsRoot};
 ghost use Rattle.query_tree.specs.Matches as spec;
 ghost use Rattle.query_tree.specs.SeenFound.{seen_found};
 ghost use Rattle.query_tree.specs.Views.{view_in};
-ghost use Rattle.rule_syntax.specs.Seen.{seen_left, seen_left_in};
-ghost use Rattle.rule_syntax.specs.SeenRules.{seen_rules};
+ghost use Rattle.rule_ast.specs.Seen.{seen_left, seen_left_in};
+ghost use Rattle.rule_ast.specs.SeenRules.{seen_rules};
 
 use crate::under::Under;
 use descriptor_types::{Desc, Tree};
 use pr_value::{Items, Memory, Symbol};
-use rule_syntax::{Left, LeftIn, Rules};
+use rule_ast::{Left, LeftIn, Rules};
 use std::alloc::Global;
 
 /// A stream of a left side by its number, and the tree that it stands for.

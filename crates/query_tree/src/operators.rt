@@ -1,10 +1,10 @@
 // Operators by their names and places.
 ghost use Rattle.std.specs.Prelude.{◌≡◌, ◌<◌, length, map, Some, slice_get};
 ghost use Rattle.query_tree.specs.Steps as spec;
-ghost use Rattle.rule_syntax.specs.Seen.{seen_operator};
+ghost use Rattle.rule_ast.specs.Seen.{seen_operator};
 
 use pr_value::Symbol;
-use rule_syntax::Operator;
+use rule_ast::Operator;
 
 /// The place of declaration of the operator of that name, from 0.
 pub(crate) fn operator_at(operators: &[Operator], name: &Symbol) -> usize

@@ -2,10 +2,10 @@
 ghost use Rattle.std.specs.Prelude.{◌≡◌, ◌++◌, flat_map, map, IfOk, OnOk};
 ghost use Rattle.query_tree.specs.Refusals as spec;
 ghost use Rattle.query_tree.specs.SeenParts.{seen_part};
-ghost use Rattle.rule_syntax.specs.Seen.{seen_query};
+ghost use Rattle.rule_ast.specs.Seen.{seen_query};
 
 use pr_value::{Memory, Symbol};
-use rule_syntax::{QueryText, Setting};
+use rule_ast::{QueryText, Setting};
 use std::alloc::Global;
 
 /// A node of a query, without what stands below it.

@@ -4,7 +4,7 @@ ghost use Rattle.std.specs.Prelude.{◌≡◌};
 use pr_value::{Memory, Symbol};
 
 /// Why a query builds no tree.
-#[derive(Debug, Drop)]
+#[derive(Drop)]
 pub enum QueryRefusal {
     /// It has more than 256 nodes.
     TooManyNodes,

@@ -1,8 +1,8 @@
 // The first condition of refusal that holds.
 ghost use Rattle.std.specs.Prelude.{◌≡◌, IfOk};
 ghost use Rattle.query_tree.specs.Refusals.{refusal_of};
-ghost use Rattle.rule_syntax.specs.Seen.{seen_query};
-ghost use Rattle.rule_syntax.specs.SeenRules.{seen_rules};
+ghost use Rattle.rule_ast.specs.Seen.{seen_query};
+ghost use Rattle.rule_ast.specs.SeenRules.{seen_rules};
 
 use crate::conditions::{
     UnknownFile, UnknownOperator, UnknownProperty, WrongArity, WrongType, first_named,
@@ -11,7 +11,7 @@ use crate::parts::parts;
 use crate::refusal::QueryRefusal;
 use catalog::Catalog;
 use pr_value::Memory;
-use rule_syntax::{QueryText, Rules};
+use rule_ast::{QueryText, Rules};
 use std::alloc::Global;
 
 /// The most nodes of a query.

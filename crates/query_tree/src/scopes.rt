@@ -7,9 +7,9 @@ ghost use Rattle.action_eval.specs.SeenEnv.{seen_env};
 ghost use Rattle.descriptor_types.specs.Descriptors.{fits};
 ghost use Rattle.query_tree.specs.Scopes as spec;
 ghost use Rattle.query_tree.specs.Scopes.{tested};
-ghost use Rattle.rule_syntax.specs.Seen.{seen_body};
-ghost use Rattle.rule_syntax.specs.SeenRules.{seen_rules};
-ghost use Rattle.rule_syntax.specs.Typing.{signatures_of};
+ghost use Rattle.rule_ast.specs.Seen.{seen_body};
+ghost use Rattle.rule_ast.specs.SeenRules.{seen_rules};
+ghost use Rattle.rule_ast.specs.Typing.{signatures_of};
 ghost use Rattle.rule_types.specs.Conditions.{is_typed_body};
 
 use crate::under::Under;
@@ -17,7 +17,7 @@ use action_eval::{Env, eval, run_statements};
 use catalog::Catalog;
 use descriptor_types::Desc;
 use pr_value::{Memory, Symbol, truth_in};
-use rule_syntax::Body;
+use rule_ast::Body;
 use std::alloc::Global;
 
 /// The environment of these descriptors under these names.

@@ -11,9 +11,9 @@ ghost use Rattle.query_tree.specs.Scopes as scopes;
 ghost use Rattle.query_tree.specs.SeenFound.{seen_found, seen_stream};
 ghost use Rattle.query_tree.specs.Steps as spec;
 ghost use Rattle.query_tree.specs.Trees.{IsTree};
-ghost use Rattle.rule_syntax.specs.Descs as descs;
-ghost use Rattle.rule_syntax.specs.Seen.{seen_left, seen_right, seen_right_in, seen_trule};
-ghost use Rattle.rule_syntax.specs.SeenRules.{seen_rules};
+ghost use Rattle.rule_ast.specs.Descs as descs;
+ghost use Rattle.rule_ast.specs.Seen.{seen_left, seen_right, seen_right_in, seen_trule};
+ghost use Rattle.rule_ast.specs.SeenRules.{seen_rules};
 ghost use Rattle.rule_types.specs.Conditions.{has_number, is_unknown_right};
 ghost use Rattle.rule_types.specs.Uses.{any_node, any_nodes};
 
@@ -27,7 +27,7 @@ use catalog::Catalog;
 use descriptor_types::{Desc, Layout, Tree};
 use pr_value::{Items, Memory, Symbol};
 use property_classes::Classes;
-use rule_syntax::{Right, RightIn, TRule, trule_descs};
+use rule_ast::{Right, RightIn, TRule, trule_descs};
 use rule_types::Accepted;
 use std::alloc::Global;
 

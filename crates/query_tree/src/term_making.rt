@@ -5,8 +5,8 @@ ghost use Rattle.derivation.specs.Stands.{StandAll};
 ghost use Rattle.pr_value.specs.Trees.{Tree, trees_of};
 ghost use Rattle.query_tree.specs.TermsMade.{StandsForStream, StandsForMade, StandForMade};
 ghost use Rattle.query_tree.specs.declared.labels.TreeLabel.{TreeLabel};
-ghost use Rattle.rule_syntax.specs.Seen.{seen_right, seen_right_in};
-ghost use Rattle.rule_syntax.specs.SeenRules.{seen_rules};
+ghost use Rattle.rule_ast.specs.Seen.{seen_right, seen_right_in};
+ghost use Rattle.rule_ast.specs.SeenRules.{seen_rules};
 ghost use Rattle.rule_types.specs.Conditions.{has_number, is_unknown_right, wrong_right};
 ghost use Rattle.rule_types.specs.Uses.{any_node, any_nodes};
 
@@ -18,7 +18,7 @@ use crate::term_matching::StreamTerm;
 use action_eval::Env;
 use derivation::Terms;
 use pr_value::Memory;
-use rule_syntax::{Right, RightIn};
+use rule_ast::{Right, RightIn};
 use std::alloc::Global;
 
 fn is_stream(stream: &StreamTerm, number: u64) -> bool

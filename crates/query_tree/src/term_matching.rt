@@ -7,8 +7,8 @@ ghost use Rattle.query_tree.specs.FoundTerms.{TellsTerm, TellsTerms, TellsRootTe
 ghost use Rattle.query_tree.specs.SeenFoundTerms.{seen_found_terms};
 ghost use Rattle.query_tree.specs.TreeLabels.{plain_label};
 ghost use Rattle.query_tree.specs.Views.{seen};
-ghost use Rattle.rule_syntax.specs.Seen.{seen_left, seen_left_in};
-ghost use Rattle.rule_syntax.specs.SeenRules.{seen_rules};
+ghost use Rattle.rule_ast.specs.Seen.{seen_left, seen_left_in};
+ghost use Rattle.rule_ast.specs.SeenRules.{seen_rules};
 
 use crate::labels::TreeLabel;
 use crate::matching::is_named;
@@ -16,7 +16,7 @@ use crate::under::Under;
 use derivation::Terms;
 use descriptor_types::Desc;
 use pr_value::{Items, Memory};
-use rule_syntax::{Left, LeftIn};
+use rule_ast::{Left, LeftIn};
 use std::alloc::Global;
 
 /// A stream of a left side by its number, and the term of the tree that it stands for.

@@ -7,9 +7,9 @@ ghost use Rattle.pr_value.specs.Trees.{Tree, trees_of};
 ghost use Rattle.property_classes.specs.Classes.{classes_of};
 ghost use Rattle.query_tree.specs.TermSteps.{Rewrites, StepsBy};
 ghost use Rattle.query_tree.specs.declared.labels.TreeLabel.{TreeLabel};
-ghost use Rattle.rule_syntax.specs.Descs.{left_descs};
-ghost use Rattle.rule_syntax.specs.Seen.{seen_left, seen_trule};
-ghost use Rattle.rule_syntax.specs.SeenRules.{seen_rules};
+ghost use Rattle.rule_ast.specs.Descs.{left_descs};
+ghost use Rattle.rule_ast.specs.Seen.{seen_left, seen_trule};
+ghost use Rattle.rule_ast.specs.SeenRules.{seen_rules};
 ghost use Rattle.rule_types.specs.Conditions.{refused_by};
 ghost use Rattle.rule_types.specs.Uses as uses;
 
@@ -26,7 +26,7 @@ use descriptor_types::Layout;
 use enforcer_find::Enforcers;
 use pr_value::Memory;
 use property_classes::Classes;
-use rule_syntax::{Copied, Rules, TRule};
+use rule_ast::{Copied, Rules, TRule};
 use rule_types::Accepted;
 use std::alloc::Global;
 
@@ -135,7 +135,7 @@ impl TreeSteps {
 
 impl Steps<TreeLabel> for TreeSteps {
     ghost use Rattle.query_tree.specs.Dressed.{dressed_step};
-    ghost use Rattle.rule_syntax.specs.SeenRules.{seen_rules};
+    ghost use Rattle.rule_ast.specs.SeenRules.{seen_rules};
 
     ghost stepped = { λ s. dressed_step (seen_rules s.rules) s.catalog };
 

@@ -1,13 +1,13 @@
 // What trees are built and rewritten under.
 ghost use Rattle.std.specs.Prelude.{◌≡◌, None};
 ghost use Rattle.property_classes.specs.Classes.{classes_of};
-ghost use Rattle.rule_syntax.specs.SeenRules.{seen_rules};
+ghost use Rattle.rule_ast.specs.SeenRules.{seen_rules};
 ghost use Rattle.rule_types.specs.Conditions.{refused_by};
 
 use catalog::Catalog;
 use descriptor_types::Layout;
 use property_classes::Classes;
-use rule_syntax::Rules;
+use rule_ast::Rules;
 
 /// Accepted rules, with the layout and the classes of their properties, and a catalog.
 #[derive(Clone, Copy)]

@@ -6,15 +6,15 @@ use Rattle.pr_value.specs.Symbols.{Symbol, is_symbol}
 use Rattle.pr_value.specs.declared.token.Token.TheVariants as token
 use Rattle.pr_value.specs.declared.token.Mark.{Mark}
 use Rattle.pr_value.specs.declared.token.Mark.TheVariants as mark
-use Rattle.rule_syntax.specs.declared.expr.BinOp.{BinOp}
-use Rattle.rule_syntax.specs.declared.expr.BinOp.TheVariants as op
-use Rattle.rule_syntax.specs.declared.expr.FoldKind.{FoldKind}
-use Rattle.rule_syntax.specs.declared.expr.FoldKind.TheVariants as folding
-use Rattle.rule_syntax.specs.Syntax.{Expr, number, truth, symbol, set_of, list_of, var, call, binary, fold, Exprs}
-use Rattle.rule_syntax.specs.Syntax as syntax
-use Rattle.rule_syntax.specs.Seen.{exprs_of}
+use Rattle.rule_ast.specs.declared.expr.BinOp.{BinOp}
+use Rattle.rule_ast.specs.declared.expr.BinOp.TheVariants as op
+use Rattle.rule_ast.specs.declared.expr.FoldKind.{FoldKind}
+use Rattle.rule_ast.specs.declared.expr.FoldKind.TheVariants as folding
+use Rattle.rule_ast.specs.Syntax.{Expr, number, truth, symbol, set_of, list_of, var, call, binary, fold, Exprs}
+use Rattle.rule_ast.specs.Syntax as syntax
+use Rattle.rule_ast.specs.Seen.{exprs_of}
 use Rattle.rule_syntax.specs.Tokens.{Text, m, commas, expr_tokens, exprs_tokens, binop_mark, truth_name, fold_name}
-use Rattle.rule_syntax.specs.Spelled.{is_free, spells_expr, spells_exprs}
+use Rattle.rule_ast.specs.Spelled.{is_free, spells_expr, spells_exprs}
 use Rattle.rule_syntax.specs.Levels.{levels, list_levels}
 use Rattle.rule_syntax.specs.Reading.{◌>>=◌, Reader, same_mark, mark_at, truth_of, fold_of, closed_at}
 use Rattle.rule_syntax.specs.ReadingExpr.{named_at, parameter_at, each_at, folded_at, operand_at, binary_at, word_expr, level_at, expr_at}

@@ -6,7 +6,7 @@ use Rattle.pr_value.specs.declared.token.Token.TheVariants as token
 use Rattle.pr_value.specs.declared.token.Mark.{Mark}
 use Rattle.pr_value.specs.declared.token.Mark.TheVariants.{Comma}
 use Rattle.rule_syntax.specs.Tokens.{Text, m, commas}
-use Rattle.rule_syntax.specs.Spelled.{has_some}
+use Rattle.rule_ast.specs.Spelled.{has_some}
 use Rattle.rule_syntax.specs.Levels.{most}
 use Rattle.rule_syntax.specs.Reading.{◌>>=◌, Reader, mark_at, listed_at, and_more, filled_at, closed_at, none_or, closing, many_at, before}
 use Rattle.rule_syntax.proofs.Opening.{before_all, listed_last, listed_more}

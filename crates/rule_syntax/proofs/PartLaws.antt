@@ -8,11 +8,11 @@ use Rattle.pr_value.specs.declared.kind.Kind.{Kind}
 use Rattle.pr_value.specs.declared.token.Token.TheVariants as token
 use Rattle.pr_value.specs.declared.token.Mark.TheVariants as mark
 use Rattle.pr_value.specs.declared.property.Property.{Property}
-use Rattle.rule_syntax.specs.declared.parts.Algorithm.{Algorithm}
-use Rattle.rule_syntax.specs.declared.parts.Param.{Param}
-use Rattle.rule_syntax.specs.Syntax.{Expr, Stmt, set, copy, Body, Operator, Helper}
+use Rattle.rule_ast.specs.declared.parts.Algorithm.{Algorithm}
+use Rattle.rule_ast.specs.declared.parts.Param.{Param}
+use Rattle.rule_ast.specs.Syntax.{Expr, Stmt, set, copy, Body, Operator, Helper}
 use Rattle.rule_syntax.specs.Tokens.{Text, m, name, commas, kind_name, expr_tokens, stmt_tokens, block, body_tokens, property_tokens, operator_tokens, algorithm_tokens, param_tokens, helper_tokens}
-use Rattle.rule_syntax.specs.Spelled.{is_free, has_some, spells_expr, spells_stmt, spells_body, spells_property, spells_operator, spells_algorithm, spells_param, spells_helper}
+use Rattle.rule_ast.specs.Spelled.{is_free, has_some, spells_expr, spells_stmt, spells_body, spells_property, spells_operator, spells_algorithm, spells_param, spells_helper}
 use Rattle.rule_syntax.specs.Levels.{most, stmt_levels, body_levels, operator_levels, helper_levels}
 use Rattle.rule_syntax.specs.Reading.{unmarked, name_at}
 use Rattle.rule_syntax.specs.ReadingParts.{assigned_at, changed_at, stmt_at, block_at, body_at, property_at, operator_at, algorithm_at, param_at, signature_at, helper_at}

@@ -3,11 +3,11 @@ use Rattle.std.proofs.Common.{map, ◌≡◌, List, [], ◌∷◌, refl, ap}
 use Rattle.std.specs.Prelude.{max, ◌&&◌}
 use Rattle.std.specs.List.{list_all}
 use Rattle.pr_value.specs.Trees.{Tree, trees_of}
-use Rattle.rule_syntax.specs.Syntax.{Expr, Exprs, LeftLabel, RightLabel, QueryLabel}
-use Rattle.rule_syntax.specs.Syntax as syntax
-use Rattle.rule_syntax.specs.Seen.{exprs_of}
+use Rattle.rule_ast.specs.Syntax.{Expr, Exprs, LeftLabel, RightLabel, QueryLabel}
+use Rattle.rule_ast.specs.Syntax as syntax
+use Rattle.rule_ast.specs.Seen.{exprs_of}
 use Rattle.rule_syntax.specs.Tokens.{expr_tokens, exprs_tokens, left_tokens, lefts_tokens, right_tokens, rights_tokens, query_tokens, queries_tokens}
-use Rattle.rule_syntax.specs.Spelled.{has_some, has_inputs, spells_expr, spells_exprs, spells_left_in, spells_left_ins, spells_right_in, spells_right_ins, spells_query, spells_queries}
+use Rattle.rule_ast.specs.Spelled.{has_some, has_inputs, spells_expr, spells_exprs, spells_left_in, spells_left_ins, spells_right_in, spells_right_ins, spells_query, spells_queries}
 use Rattle.rule_syntax.specs.Levels.{most, levels, list_levels, left_levels, lefts_levels, right_levels, rights_levels, query_levels, queries_levels}
 
 -- expressions

@@ -12,31 +12,31 @@ use Rattle.pr_value.specs.Symbols.{Symbol}
 use Rattle.pr_value.specs.Trees.{Tree, tree, trees_of}
 use Rattle.rule_syntax.specs.Separators.{before_part}
 use Rattle.rule_syntax.specs.Tokens.{Text, m, name, commas, expr_tokens, exprs_tokens, binop_mark, fold_name, left_tokens, lefts_tokens, right_tokens, rights_tokens, stmt_tokens, block, property_tokens, operator_tokens, algorithm_tokens, helper_tokens, trule_tokens, irule_tokens, tokens_of}
-use Rattle.rule_syntax.specs.Syntax.{LeftLabel, RightLabel}
-use Rattle.rule_syntax.specs.Seen.{seen_expr, exprs_of, seen_stmt, seen_operator, seen_helper, seen_trule, seen_irule, seen_left, seen_left_in, left_level, left_input_level, seen_right, seen_right_in, right_level, right_input_level}
-use Rattle.rule_syntax.specs.SeenRules.{seen_rules}
-use Rattle.rule_syntax.specs.declared.expr.Stmt as stmt
+use Rattle.rule_ast.specs.Syntax.{LeftLabel, RightLabel}
+use Rattle.rule_ast.specs.Seen.{seen_expr, exprs_of, seen_stmt, seen_operator, seen_helper, seen_trule, seen_irule, seen_left, seen_left_in, left_level, left_input_level, seen_right, seen_right_in, right_level, right_input_level}
+use Rattle.rule_ast.specs.SeenRules.{seen_rules}
+use Rattle.rule_ast.specs.declared.expr.Stmt as stmt
 use Rattle.pr_value.specs.declared.property.Property.{Property}
-use Rattle.rule_syntax.specs.declared.parts.Operator as operator
-use Rattle.rule_syntax.specs.declared.parts.Algorithm.{Algorithm}
-use Rattle.rule_syntax.specs.declared.parts.Helper as helper
-use Rattle.rule_syntax.specs.declared.parts.TRule as trule
-use Rattle.rule_syntax.specs.declared.parts.IRule as irule
-use Rattle.rule_syntax.specs.declared.rule_set.Rules as rules
-use Rattle.rule_syntax.specs.declared.expr.BinOp.{BinOp}
-use Rattle.rule_syntax.specs.declared.expr.FoldKind.{FoldKind}
-use Rattle.rule_syntax.specs.declared.expr.Expr as rust
-use Rattle.rule_syntax.specs.declared.expr.Expr.TheVariants as variant
-use Rattle.rule_syntax.specs.declared.sides.Left as left
-use Rattle.rule_syntax.specs.declared.sides.Left.{out-Left}
-use Rattle.rule_syntax.specs.declared.sides.LeftIn as left_in
-use Rattle.rule_syntax.specs.declared.sides.LeftIn.TheFolds.{fold_out-Left}
-use Rattle.rule_syntax.specs.declared.sides.Right as right
-use Rattle.rule_syntax.specs.declared.sides.Right.{out-Right}
-use Rattle.rule_syntax.specs.declared.sides.RightIn as right_in
-use Rattle.rule_syntax.specs.declared.sides.RightIn.TheFolds.{fold_out-Right}
+use Rattle.rule_ast.specs.declared.parts.Operator as operator
+use Rattle.rule_ast.specs.declared.parts.Algorithm.{Algorithm}
+use Rattle.rule_ast.specs.declared.parts.Helper as helper
+use Rattle.rule_ast.specs.declared.parts.TRule as trule
+use Rattle.rule_ast.specs.declared.parts.IRule as irule
+use Rattle.rule_ast.specs.declared.rule_set.Rules as rules
+use Rattle.rule_ast.specs.declared.expr.BinOp.{BinOp}
+use Rattle.rule_ast.specs.declared.expr.FoldKind.{FoldKind}
+use Rattle.rule_ast.specs.declared.expr.Expr as rust
+use Rattle.rule_ast.specs.declared.expr.Expr.TheVariants as variant
+use Rattle.rule_ast.specs.declared.sides.Left as left
+use Rattle.rule_ast.specs.declared.sides.Left.{out-Left}
+use Rattle.rule_ast.specs.declared.sides.LeftIn as left_in
+use Rattle.rule_ast.specs.declared.sides.LeftIn.TheFolds.{fold_out-Left}
+use Rattle.rule_ast.specs.declared.sides.Right as right
+use Rattle.rule_ast.specs.declared.sides.Right.{out-Right}
+use Rattle.rule_ast.specs.declared.sides.RightIn as right_in
+use Rattle.rule_ast.specs.declared.sides.RightIn.TheFolds.{fold_out-Right}
 use Rattle.rule_syntax.proofs.Opening.{map_push}
-use Rattle.rule_syntax.proofs.SeenLaws.{seen_set, seen_list, seen_call, seen_binary, seen_fold}
+use Rattle.rule_ast.proofs.SeenLaws.{seen_set, seen_list, seen_call, seen_binary, seen_fold}
 
 -- one more part behind others
 pub commas_push : (ts : List Text) (t : Text) → commas (ts ++ t ∷ []) ≡ commas ts ++ (before_part (length ts) (m Comma) ++ t)

@@ -12,19 +12,19 @@ use Rattle.pr_value.specs.declared.kind.Kind.{Kind}
 use Rattle.pr_value.specs.declared.kind.Kind.TheVariants as kind
 use Rattle.pr_value.specs.declared.token.Mark.{Mark}
 use Rattle.pr_value.specs.declared.token.Mark.TheVariants as mark
-use Rattle.rule_syntax.specs.declared.expr.FoldKind.{FoldKind}
-use Rattle.rule_syntax.specs.declared.expr.FoldKind.TheVariants as folding
-use Rattle.rule_syntax.specs.declared.parts.Algorithm.{Algorithm}
-use Rattle.rule_syntax.specs.declared.parts.Param.{Param}
+use Rattle.rule_ast.specs.declared.expr.FoldKind.{FoldKind}
+use Rattle.rule_ast.specs.declared.expr.FoldKind.TheVariants as folding
+use Rattle.rule_ast.specs.declared.parts.Algorithm.{Algorithm}
+use Rattle.rule_ast.specs.declared.parts.Param.{Param}
 use Rattle.pr_value.specs.declared.property.Property.{Property}
-use Rattle.rule_syntax.specs.declared.sides.AlgName.{AlgName}
-use Rattle.rule_syntax.specs.declared.sides.AlgName.TheVariants as alg
-use Rattle.rule_syntax.specs.declared.sides.ImplIn.{ImplIn}
-use Rattle.rule_syntax.specs.declared.sides.ImplSide.{ImplSide}
-use Rattle.rule_syntax.specs.Syntax as syntax
-use Rattle.rule_syntax.specs.Syntax.{Expr, number, truth, symbol, set_of, list_of, var, call, binary, fold, Exprs, Stmt, LeftLabel, RightLabel, Operator, Helper, Body, TRule, IRule, Rules}
+use Rattle.rule_ast.specs.declared.sides.AlgName.{AlgName}
+use Rattle.rule_ast.specs.declared.sides.AlgName.TheVariants as alg
+use Rattle.rule_ast.specs.declared.sides.ImplIn.{ImplIn}
+use Rattle.rule_ast.specs.declared.sides.ImplSide.{ImplSide}
+use Rattle.rule_ast.specs.Syntax as syntax
+use Rattle.rule_ast.specs.Syntax.{Expr, number, truth, symbol, set_of, list_of, var, call, binary, fold, Exprs, Stmt, LeftLabel, RightLabel, Operator, Helper, Body, TRule, IRule, Rules}
 use Rattle.rule_syntax.specs.Tokens.{Text, m, name, num, quoted, commas, parens, braces, brackets, kind_name, truth_name, binop_mark, fold_name, expr_tokens, exprs_tokens, stmt_tokens, block, body_tokens, left_tokens, lefts_tokens, right_tokens, rights_tokens, impl_in_tokens, alg_name, impl_tokens, property_tokens, operator_tokens, algorithm_tokens, param_tokens, helper_tokens, trule_tokens, irule_tokens}
-use Rattle.rule_syntax.specs.Spelled.{is_free, has_some, spells_expr, spells_exprs, spells_stmt, spells_body, has_inputs, spells_left_in, spells_left_ins, spells_left, spells_right_in, spells_right_ins, spells_right, spells_alg, spells_impl_in, spells_impl, spells_property, spells_operator, spells_algorithm, spells_param, spells_helper, spells_trule, spells_irule}
+use Rattle.rule_ast.specs.Spelled.{is_free, has_some, spells_expr, spells_exprs, spells_stmt, spells_body, has_inputs, spells_left_in, spells_left_ins, spells_left, spells_right_in, spells_right_ins, spells_right, spells_alg, spells_impl_in, spells_impl, spells_property, spells_operator, spells_algorithm, spells_param, spells_helper, spells_trule, spells_irule}
 use Rattle.rule_syntax.specs.Printable.{HasTexts}
 
 -- each token has a text

@@ -10,13 +10,13 @@ use Rattle.pr_value.proofs.TreeLaws.{trees_of_list_of}
 use Rattle.pr_value.specs.declared.token.Token.TheVariants as token
 use Rattle.pr_value.specs.declared.token.Mark.{Mark}
 use Rattle.pr_value.specs.declared.token.Mark.TheVariants as mark
-use Rattle.rule_syntax.specs.declared.query.Setting.{Setting}
-use Rattle.rule_syntax.specs.declared.query.Literal.{Literal}
-use Rattle.rule_syntax.specs.declared.query.Literal.TheVariants as literal
+use Rattle.rule_ast.specs.declared.query.Setting.{Setting}
+use Rattle.rule_ast.specs.declared.query.Literal.{Literal}
+use Rattle.rule_ast.specs.declared.query.Literal.TheVariants as literal
 use Rattle.rule_syntax.specs.DistinctQueries.{DistinctQueries}
-use Rattle.rule_syntax.specs.Syntax.{QueryLabel, Query}
+use Rattle.rule_ast.specs.Syntax.{QueryLabel, Query}
 use Rattle.rule_syntax.specs.Tokens.{Text, m, name, quoted, commas, parens, braces, literal_tokens, setting_tokens, settings_tokens, query_tokens}
-use Rattle.rule_syntax.specs.Spelled.{is_free, has_some, has_inputs, spells_literal, spells_setting, spells_query, spells_queries}
+use Rattle.rule_ast.specs.Spelled.{is_free, has_some, has_inputs, spells_literal, spells_setting, spells_query, spells_queries}
 use Rattle.rule_syntax.specs.Levels.{query_levels, queries_levels, IsQuery}
 use Rattle.rule_syntax.specs.Reading.{◌>>=◌, Reader, mark_at, marked, word_at, begins, name_at, quoted_at, truth_of, filled_at, closed_at, alone}
 use Rattle.rule_syntax.specs.ReadingQuery.{literal_at, setting_at, settings_at, file_at, operator_at, query_level_at, query_at, whole_query_at}

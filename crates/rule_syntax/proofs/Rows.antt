@@ -8,14 +8,14 @@ use Rattle.pr_value.specs.declared.token.Token.TheVariants.{Name, Number, Quoted
 use Rattle.pr_value.specs.declared.token.Token.TheVariants as token
 use Rattle.pr_value.specs.declared.token.Mark.{Mark}
 use Rattle.pr_value.specs.declared.token.Mark.TheVariants as mark
-use Rattle.rule_syntax.specs.declared.expr.BinOp.TheVariants as op
-use Rattle.rule_syntax.specs.declared.expr.FoldKind.TheVariants as folding
-use Rattle.rule_syntax.specs.declared.query.Literal.TheVariants as literal
-use Rattle.rule_syntax.specs.declared.sides.AlgName.TheVariants as alg
-use Rattle.rule_syntax.specs.Syntax as syntax
-use Rattle.rule_syntax.specs.Syntax.{Expr, LeftLabel, RightLabel, QueryLabel, Body, TRule, IRule, Rules, Query}
+use Rattle.rule_ast.specs.declared.expr.BinOp.TheVariants as op
+use Rattle.rule_ast.specs.declared.expr.FoldKind.TheVariants as folding
+use Rattle.rule_ast.specs.declared.query.Literal.TheVariants as literal
+use Rattle.rule_ast.specs.declared.sides.AlgName.TheVariants as alg
+use Rattle.rule_ast.specs.Syntax as syntax
+use Rattle.rule_ast.specs.Syntax.{Expr, LeftLabel, RightLabel, QueryLabel, Body, TRule, IRule, Rules, Query}
 use Rattle.rule_syntax.specs.Tokens.{Text, tokens_of, query_tokens, expr_tokens}
-use Rattle.rule_syntax.specs.Spelled.{is_free, spells, spells_expr, spells_left, spells_right, spells_query}
+use Rattle.rule_ast.specs.Spelled.{is_free, spells, spells_expr, spells_left, spells_right, spells_query}
 use Rattle.rule_syntax.specs.Levels.{levels, left_levels, query_levels}
 
 abbrev w : List ℕ → Token

@@ -10,11 +10,11 @@ use Rattle.pr_value.specs.Trees.{Tree}
 use Rattle.pr_value.specs.declared.token.Token.TheVariants as token
 use Rattle.pr_value.specs.declared.token.Mark.TheVariants as mark
 use Rattle.pr_value.specs.declared.property.Property.{Property}
-use Rattle.rule_syntax.specs.declared.parts.Algorithm.{Algorithm}
-use Rattle.rule_syntax.specs.declared.sides.ImplSide.{ImplSide}
-use Rattle.rule_syntax.specs.Syntax.{LeftLabel, RightLabel, Body, Operator, Helper, TRule, IRule, Rules}
+use Rattle.rule_ast.specs.declared.parts.Algorithm.{Algorithm}
+use Rattle.rule_ast.specs.declared.sides.ImplSide.{ImplSide}
+use Rattle.rule_ast.specs.Syntax.{LeftLabel, RightLabel, Body, Operator, Helper, TRule, IRule, Rules}
 use Rattle.rule_syntax.specs.Tokens.{Text, m, name, left_tokens, right_tokens, impl_tokens, body_tokens, property_tokens, operator_tokens, algorithm_tokens, helper_tokens, trule_tokens, irule_tokens, tokens_of}
-use Rattle.rule_syntax.specs.Spelled.{is_free, spells_left, spells_right, spells_impl, spells_body, spells_property, spells_operator, spells_algorithm, spells_helper, spells_trule, spells_irule, spells}
+use Rattle.rule_ast.specs.Spelled.{is_free, spells_left, spells_right, spells_impl, spells_body, spells_property, spells_operator, spells_algorithm, spells_helper, spells_trule, spells_irule, spells}
 use Rattle.rule_syntax.specs.Levels.{most_levels, left_levels, right_levels, operator_levels, helper_levels, trule_levels, irule_levels, rules_levels, IsRules}
 use Rattle.rule_syntax.specs.Reading.{Reader, begins}
 use Rattle.rule_syntax.specs.ReadingParts.{section_at, property_at, operator_at, algorithm_at, helper_at}

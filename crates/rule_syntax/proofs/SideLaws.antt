@@ -8,13 +8,13 @@ use Rattle.pr_value.specs.Trees.{Tree, node, Trees, nil, cons, tree, trees_of, l
 use Rattle.pr_value.proofs.TreeLaws.{trees_of_list_of}
 use Rattle.pr_value.specs.declared.token.Token.TheVariants as token
 use Rattle.pr_value.specs.declared.token.Mark.TheVariants as mark
-use Rattle.rule_syntax.specs.declared.sides.AlgName.{AlgName}
-use Rattle.rule_syntax.specs.declared.sides.AlgName.TheVariants as alg
-use Rattle.rule_syntax.specs.declared.sides.ImplIn.{ImplIn}
-use Rattle.rule_syntax.specs.declared.sides.ImplSide.{ImplSide}
-use Rattle.rule_syntax.specs.Syntax.{LeftLabel, RightLabel}
+use Rattle.rule_ast.specs.declared.sides.AlgName.{AlgName}
+use Rattle.rule_ast.specs.declared.sides.AlgName.TheVariants as alg
+use Rattle.rule_ast.specs.declared.sides.ImplIn.{ImplIn}
+use Rattle.rule_ast.specs.declared.sides.ImplSide.{ImplSide}
+use Rattle.rule_ast.specs.Syntax.{LeftLabel, RightLabel}
 use Rattle.rule_syntax.specs.Tokens.{Text, m, name, parens, commas, left_tokens, right_tokens, impl_in_tokens, alg_name, impl_tokens}
-use Rattle.rule_syntax.specs.Spelled.{is_free, has_some, has_inputs, spells_left_in, spells_left_ins, spells_left, spells_right_in, spells_right_ins, spells_right, spells_alg, spells_impl_in, spells_impl}
+use Rattle.rule_ast.specs.Spelled.{is_free, has_some, has_inputs, spells_left_in, spells_left_ins, spells_left, spells_right_in, spells_right_ins, spells_right, spells_alg, spells_impl_in, spells_impl}
 use Rattle.rule_syntax.specs.Levels.{left_levels, lefts_levels, right_levels, rights_levels}
 use Rattle.rule_syntax.specs.Reading.{◌>>=◌, Reader, mark_at, marked, word_at, begins, name_at, number_at, filled_at}
 use Rattle.rule_syntax.specs.ReadingSides.{stream_at, impl_in_at, inputs_at, node_at, left_in_at, left_at, right_in_at, right_at, alg_at, impl_at}

@@ -11,12 +11,12 @@ use Rattle.pr_value.specs.declared.kind.Kind.TheVariants as kind
 use Rattle.pr_value.specs.declared.token.Token.TheVariants as token
 use Rattle.pr_value.specs.declared.token.Mark.{Mark}
 use Rattle.pr_value.specs.declared.token.Mark.TheVariants as mark
-use Rattle.rule_syntax.specs.declared.expr.BinOp.{BinOp}
-use Rattle.rule_syntax.specs.declared.expr.BinOp.TheVariants as op
-use Rattle.rule_syntax.specs.declared.expr.FoldKind.{FoldKind}
-use Rattle.rule_syntax.specs.declared.expr.FoldKind.TheVariants as folding
+use Rattle.rule_ast.specs.declared.expr.BinOp.{BinOp}
+use Rattle.rule_ast.specs.declared.expr.BinOp.TheVariants as op
+use Rattle.rule_ast.specs.declared.expr.FoldKind.{FoldKind}
+use Rattle.rule_ast.specs.declared.expr.FoldKind.TheVariants as folding
 use Rattle.rule_syntax.specs.Tokens.{Text, kind_name, truth_name, fold_name, binop_mark}
-use Rattle.rule_syntax.specs.Spelled.{is_free}
+use Rattle.rule_ast.specs.Spelled.{is_free}
 use Rattle.rule_syntax.specs.Reading.{◌>>=◌, mark_number, same_mark, mark_at, word_at, name_at, number_at, quoted_at, kind_of, kind_at, truth_of, fold_of, binop_of, binop_at}
 
 pub bind_some : {A B : Type 0} (o : Option A) (f : A → Option B) (y : B) → (o >>= f) ≡ Some y → (x : A) × (o ≡ Some x) × (f x ≡ Some y)

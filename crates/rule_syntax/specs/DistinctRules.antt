@@ -1,8 +1,8 @@
 -- The law that a rule set is known by its tokens.
 use Rattle.std.specs.Prelude.{◌≡◌, true}
-use Rattle.rule_syntax.specs.Syntax.{Rules}
+use Rattle.rule_ast.specs.Syntax.{Rules}
 use Rattle.rule_syntax.specs.Tokens.{tokens_of}
-use Rattle.rule_syntax.specs.Spelled.{spells}
+use Rattle.rule_ast.specs.Spelled.{spells}
 
 -- no two rule sets that the grammar spells have the same tokens
 abbrev pub DistinctRules : Type 0

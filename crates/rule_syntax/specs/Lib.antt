@@ -1,6 +1,3 @@
-pub mod CostForms
-pub mod CostGiven
-pub mod Descs
 pub mod DistinctQueries
 pub mod DistinctRules
 pub mod Levels
@@ -12,14 +9,5 @@ pub mod ReadingParts
 pub mod ReadingQuery
 pub mod ReadingRules
 pub mod ReadingSides
-pub mod Reads
-pub mod Roles
-pub mod Seen
-pub mod SeenRows
-pub mod SeenRules
 pub mod Separators
-pub mod Spelled
-pub mod SpelledParts
-pub mod Syntax
 pub mod Tokens
-pub mod Typing

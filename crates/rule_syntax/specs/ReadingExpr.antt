@@ -4,13 +4,13 @@ use Rattle.pr_value.specs.Capped.{cap}
 use Rattle.pr_value.specs.Symbols.{Symbol, is_symbol}
 use Rattle.pr_value.specs.declared.token.Token.TheVariants as token
 use Rattle.pr_value.specs.declared.token.Mark.TheVariants as mark
-use Rattle.rule_syntax.specs.declared.expr.BinOp.{BinOp}
-use Rattle.rule_syntax.specs.declared.expr.FoldKind.{FoldKind}
-use Rattle.rule_syntax.specs.Syntax.{Expr, number, truth, symbol, set_of, list_of, var, call, binary, fold}
-use Rattle.rule_syntax.specs.Syntax as syntax
-use Rattle.rule_syntax.specs.Seen.{exprs_of}
+use Rattle.rule_ast.specs.declared.expr.BinOp.{BinOp}
+use Rattle.rule_ast.specs.declared.expr.FoldKind.{FoldKind}
+use Rattle.rule_ast.specs.Syntax.{Expr, number, truth, symbol, set_of, list_of, var, call, binary, fold}
+use Rattle.rule_ast.specs.Syntax as syntax
+use Rattle.rule_ast.specs.Seen.{exprs_of}
 use Rattle.rule_syntax.specs.Tokens.{Text}
-use Rattle.rule_syntax.specs.Spelled.{is_free}
+use Rattle.rule_ast.specs.Spelled.{is_free}
 use Rattle.rule_syntax.specs.Reading.{◌>>=◌, Reader, mark_at, word_at, name_at, binop_at, truth_of, fold_of, closed_at}
 
 -- what a name begins: a call, a descriptor's property or a variable

@@ -4,9 +4,9 @@ use Rattle.pr_value.specs.Symbols.{Symbol}
 use Rattle.pr_value.specs.declared.token.Token.TheVariants as token
 use Rattle.pr_value.specs.declared.token.Mark.TheVariants as mark
 use Rattle.pr_value.specs.declared.property.Property.{Property}
-use Rattle.rule_syntax.specs.declared.parts.Algorithm.{Algorithm}
-use Rattle.rule_syntax.specs.declared.parts.Param.{Param}
-use Rattle.rule_syntax.specs.Syntax.{Expr, Stmt, set, copy, Body, Operator, Helper}
+use Rattle.rule_ast.specs.declared.parts.Algorithm.{Algorithm}
+use Rattle.rule_ast.specs.declared.parts.Param.{Param}
+use Rattle.rule_ast.specs.Syntax.{Expr, Stmt, set, copy, Body, Operator, Helper}
 use Rattle.rule_syntax.specs.Reading.{◌>>=◌, Reader, mark_at, unmarked, begins, word_at, name_at, number_at, kind_at, filled_at, closed_at, closing, many_at}
 use Rattle.rule_syntax.specs.ReadingExpr.{expr_at}
 

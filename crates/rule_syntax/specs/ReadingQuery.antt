@@ -5,10 +5,10 @@ use Rattle.pr_value.specs.Symbols.{is_symbol}
 use Rattle.pr_value.specs.Trees.{tree}
 use Rattle.pr_value.specs.declared.token.Token.TheVariants as token
 use Rattle.pr_value.specs.declared.token.Mark.TheVariants as mark
-use Rattle.rule_syntax.specs.declared.query.Setting.{Setting}
-use Rattle.rule_syntax.specs.declared.query.Literal.{Literal}
-use Rattle.rule_syntax.specs.declared.query.Literal.TheVariants as literal
-use Rattle.rule_syntax.specs.Syntax.{QueryLabel, Query}
+use Rattle.rule_ast.specs.declared.query.Setting.{Setting}
+use Rattle.rule_ast.specs.declared.query.Literal.{Literal}
+use Rattle.rule_ast.specs.declared.query.Literal.TheVariants as literal
+use Rattle.rule_ast.specs.Syntax.{QueryLabel, Query}
 use Rattle.rule_syntax.specs.Tokens.{Text}
 use Rattle.rule_syntax.specs.Levels.{most_query_levels}
 use Rattle.rule_syntax.specs.Reading.{◌>>=◌, Reader, mark_at, marked, word_at, begins, name_at, quoted_at, truth_of, filled_at, closed_at, alone}

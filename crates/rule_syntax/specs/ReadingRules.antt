@@ -1,7 +1,7 @@
 -- What the reader of a rule set does. The number is that of the levels that expressions and sides may have.
 use Rattle.std.specs.Prelude.{ℕ, Option, Some, codes}
 use Rattle.pr_value.specs.declared.token.Mark.TheVariants as mark
-use Rattle.rule_syntax.specs.Syntax.{TRule, IRule, Rules}
+use Rattle.rule_ast.specs.Syntax.{TRule, IRule, Rules}
 use Rattle.rule_syntax.specs.Tokens.{Text}
 use Rattle.rule_syntax.specs.Reading.{◌>>=◌, Reader, mark_at, word_at, name_at, alone}
 use Rattle.rule_syntax.specs.ReadingParts.{body_at, section_at, property_at, operator_at, algorithm_at, helper_at}

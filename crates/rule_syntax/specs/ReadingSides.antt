@@ -3,11 +3,11 @@ use Rattle.std.specs.Prelude.{ℕ, zero, suc, if◌then◌else◌, List, [], Som
 use Rattle.pr_value.specs.Symbols.{Symbol}
 use Rattle.pr_value.specs.Trees.{Tree, tree}
 use Rattle.pr_value.specs.declared.token.Mark.TheVariants as mark
-use Rattle.rule_syntax.specs.declared.sides.AlgName.{AlgName}
-use Rattle.rule_syntax.specs.declared.sides.AlgName.TheVariants as alg
-use Rattle.rule_syntax.specs.declared.sides.ImplIn.{ImplIn}
-use Rattle.rule_syntax.specs.declared.sides.ImplSide.{ImplSide}
-use Rattle.rule_syntax.specs.Syntax.{LeftLabel, RightLabel}
+use Rattle.rule_ast.specs.declared.sides.AlgName.{AlgName}
+use Rattle.rule_ast.specs.declared.sides.AlgName.TheVariants as alg
+use Rattle.rule_ast.specs.declared.sides.ImplIn.{ImplIn}
+use Rattle.rule_ast.specs.declared.sides.ImplSide.{ImplSide}
+use Rattle.rule_ast.specs.Syntax.{LeftLabel, RightLabel}
 use Rattle.rule_syntax.specs.Reading.{◌>>=◌, Reader, mark_at, marked, word_at, begins, name_at, number_at, filled_at}
 
 -- "?" NUMBER

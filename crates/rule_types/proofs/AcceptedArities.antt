@@ -2,7 +2,7 @@
 use Rattle.std.proofs.Common.{◌≡◌, false, not, length, None, ap}
 use Rattle.std.proofs.lemmas.Bool.{not-false, or_parts}
 use Rattle.std.specs.List.{list_any}
-use Rattle.rule_syntax.specs.Syntax.{Rules}
+use Rattle.rule_ast.specs.Syntax.{Rules}
 use Rattle.rule_types.specs.AcceptedLaws.{HasArities, HasKnownSides}
 use Rattle.rule_types.specs.Conditions.{is_arity, refused_by, unknown_in_irule, unknown_in_sides, unknown_in_trule, unknown_in_uses, unknown_name, wrong_arity, wrong_call, wrong_in_irule, wrong_in_parts, wrong_in_trule}
 use Rattle.rule_types.specs.Declarations.{Declaration, operator, algorithm, trule, irule, declarations, helpers_of}

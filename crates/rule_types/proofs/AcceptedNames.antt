@@ -8,8 +8,8 @@ use Rattle.pr_value.specs.Repeats.{are_distinct, repeated_after}
 use Rattle.pr_value.specs.Symbols.{Symbol}
 use Rattle.pr_value.specs.SymbolSets.{contains}
 use Rattle.pr_value.proofs.RepeatLaws.{are_distinct-first_repeated}
-use Rattle.rule_syntax.specs.Descs.{impl_descs, irule_descs, left_descs, names_of, operator_descs, trule_descs}
-use Rattle.rule_syntax.specs.Syntax.{IRule, Rules}
+use Rattle.rule_ast.specs.Descs.{impl_descs, irule_descs, left_descs, names_of, operator_descs, trule_descs}
+use Rattle.rule_ast.specs.Syntax.{IRule, Rules}
 use Rattle.std.specs.Str.{bytes_eq}
 use Rattle.rule_types.specs.AcceptedLaws.{HasDistinctDescs, HasDistinctNames, IsWithinLimits}
 use Rattle.rule_types.specs.Conditions.{earlier_names, has_builtin_name, is_past, is_taken, most_declared, most_properties, operator_names, refused_by, scope_names, too_many, trule_names, two_names}

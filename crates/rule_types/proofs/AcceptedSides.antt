@@ -3,7 +3,7 @@ use Rattle.std.proofs.Common.{◌≡◌, ℕ, ◌≤◌, Bool, true, false, not,
 use Rattle.std.proofs.lemmas.Bool.{and_from, le-leb, ltb-false, not-false, or_parts}
 use Rattle.std.specs.List.{list_all, list_any}
 use Rattle.pr_value.specs.Trees.{Tree, node, Trees, nil, cons, label, list_of}
-use Rattle.rule_syntax.specs.Syntax.{LeftLabel, TRule, IRule, Rules}
+use Rattle.rule_ast.specs.Syntax.{LeftLabel, TRule, IRule, Rules}
 use Rattle.rule_types.specs.AcceptedLaws.{HasSoundSides, is_flat, is_small_trule, is_sound_irule, is_sound_trule, is_stream}
 use Rattle.rule_types.specs.Conditions.{are_numbers_distinct, left_not_flat, left_stream_twice, most_nodes, refused_by, same_numbers, stream_order, too_many_nodes}
 use Rattle.rule_types.specs.Declarations.{Declaration, trule, irule, declarations}

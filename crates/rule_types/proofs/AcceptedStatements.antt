@@ -2,9 +2,9 @@
 use Rattle.std.proofs.Common.{◌≡◌, Bool, true, false, not, ◌&&◌, ◌||◌, None, refl, ap, sym}
 use Rattle.std.specs.List.{list_any}
 use Rattle.std.specs.Str.{bytes_eq}
-use Rattle.rule_syntax.specs.CostForms.{cost_name}
-use Rattle.rule_syntax.specs.Roles.{is_null}
-use Rattle.rule_syntax.specs.Syntax.{Rules}
+use Rattle.rule_ast.specs.CostForms.{cost_name}
+use Rattle.rule_ast.specs.Roles.{is_null}
+use Rattle.rule_ast.specs.Syntax.{Rules}
 use Rattle.rule_types.specs.AcceptedLaws.{AssignsPhysical, ChangesItsOwn, HasSoundNulls, changes_but, is_of_algorithm, is_right_node, is_sound_null, no_use_in, no_use_of}
 use Rattle.rule_types.specs.Conditions.{refused_by}
 use Rattle.rule_types.specs.Declarations.{declarations}

@@ -3,8 +3,8 @@ use Rattle.std.proofs.Common.{◌≡◌, Bool, true, false, not, List, [], ◌�
 use Rattle.std.proofs.lemmas.Bool.{and_from, or_parts, not-false}
 use Rattle.std.specs.List.{list_any}
 use Rattle.pr_value.specs.declared.property.Property.{Property}
-use Rattle.rule_syntax.specs.Syntax.{Helper, Rules}
-use Rattle.rule_syntax.specs.Typing.{Signature, are_typed, helper_signature, is_type, params_context, signatures_before, signatures_of, type_of, type_of_kind}
+use Rattle.rule_ast.specs.Syntax.{Helper, Rules}
+use Rattle.rule_ast.specs.Typing.{Signature, are_typed, helper_signature, is_type, params_context, signatures_before, signatures_of, type_of, type_of_kind}
 use Rattle.rule_types.specs.AcceptedLaws.{IsWellTyped, has_typed_init, is_typed_irule, is_typed_trule}
 use Rattle.rule_types.specs.Conditions.{refused_by, wrong_type}
 use Rattle.rule_types.specs.Declarations.{Placed, declarations, placed_behind}

@@ -5,10 +5,10 @@ use Rattle.std.specs.List.{list_any}
 use Rattle.std.specs.Prelude.{◌==◌}
 use Rattle.std.specs.Str.{bytes_eq}
 use Rattle.pr_value.specs.Symbols.{Symbol}
-use Rattle.rule_syntax.specs.Seen.{seen_helper, seen_operator}
-use Rattle.rule_syntax.specs.Typing.{helper_signature, type_of_kind}
-use Rattle.rule_syntax.specs.declared.parts.Helper.{Helper}
-use Rattle.rule_syntax.specs.declared.parts.Operator.{Operator}
+use Rattle.rule_ast.specs.Seen.{seen_helper, seen_operator}
+use Rattle.rule_ast.specs.Typing.{helper_signature, type_of_kind}
+use Rattle.rule_ast.specs.declared.parts.Helper.{Helper}
+use Rattle.rule_ast.specs.declared.parts.Operator.{Operator}
 use Rattle.rule_types.specs.Conditions.{takes, has_signature}
 
 pub takes-map : (os : List Operator) (o : Symbol) (n : ℕ) → takes (map seen_operator os) o n ≡ list_any (λ p. bytes_eq p.name o && length p.views == n) os

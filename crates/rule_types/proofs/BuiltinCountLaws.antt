@@ -4,7 +4,7 @@ use Rattle.std.specs.Prelude.{◌==◌, codes}
 use Rattle.std.specs.Str.{bytes_eq}
 use Rattle.pr_value.specs.Symbols.{Symbol}
 use Rattle.pr_value.proofs.Shelf.{bytes_eq-same}
-use Rattle.rule_syntax.specs.Typing.{builtins, builtin_of}
+use Rattle.rule_ast.specs.Typing.{builtins, builtin_of}
 use Rattle.rule_types.specs.BuiltinCounts.{takes_if}
 use Rattle.rule_types.specs.Conditions.{has_signature}
 

@@ -1,10 +1,10 @@
 -- The helpers so far.
 use Rattle.std.proofs.Common.{◌≡◌, ℕ, ◌+◌, ◌<◌, List, [], ◌∷◌, ◌++◌, length, take, get_or, map, refl, ap, sym, ◌∙◌}
 use Rattle.std.proofs.lemmas.List.{map-append, take_more}
-use Rattle.rule_syntax.specs.Seen.{seen_helper}
-use Rattle.rule_syntax.specs.Syntax.{Helper}
-use Rattle.rule_syntax.specs.Typing.{Signature, helper_signature, signatures_before, signatures_of}
-use Rattle.rule_syntax.specs.declared.parts.Helper as rust
+use Rattle.rule_ast.specs.Seen.{seen_helper}
+use Rattle.rule_ast.specs.Syntax.{Helper}
+use Rattle.rule_ast.specs.Typing.{Signature, helper_signature, signatures_before, signatures_of}
+use Rattle.rule_ast.specs.declared.parts.Helper as rust
 
 -- a further helper is the first that is looked at
 signatures_before-append : (ss : List Signature) (hs : List Helper) (h : Helper) → signatures_before ss (hs ++ h ∷ []) ≡ helper_signature h ∷ signatures_before ss hs

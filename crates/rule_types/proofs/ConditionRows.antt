@@ -5,7 +5,7 @@ use Rattle.pr_value.specs.Trees.{Tree, tree}
 use Rattle.pr_value.specs.declared.kind.Kind.{Kind}
 use Rattle.pr_value.specs.declared.kind.Kind.TheVariants as kind
 use Rattle.pr_value.specs.declared.property.Property.{Property}
-use Rattle.rule_syntax.specs.Syntax.{LeftLabel, Rules}
+use Rattle.rule_ast.specs.Syntax.{LeftLabel, Rules}
 use Rattle.rule_types.specs.Conditions.{are_numbers_distinct, is_arity, refused, refused_by, same_numbers}
 use Rattle.rule_types.specs.Declarations.{placed}
 use Rattle.rule_types.specs.Uses.{nodes, counts_left, streams}

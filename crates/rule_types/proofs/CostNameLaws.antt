@@ -9,8 +9,8 @@ use Rattle.pr_value.specs.SymbolSets.{contains}
 use Rattle.pr_value.specs.declared.kind.Kind.{Kind}
 use Rattle.pr_value.specs.declared.kind.Kind.TheVariants as kind
 use Rattle.pr_value.specs.declared.property.Property.{Property}
-use Rattle.rule_syntax.specs.CostForms.{cost_name, is_cost}
-use Rattle.rule_syntax.specs.Typing.{property_kind}
+use Rattle.rule_ast.specs.CostForms.{cost_name, is_cost}
+use Rattle.rule_ast.specs.Typing.{property_kind}
 use Rattle.rule_types.specs.AcceptedLaws.{costs_of}
 use Rattle.rule_types.specs.Conditions.{has_cost, property_names}
 

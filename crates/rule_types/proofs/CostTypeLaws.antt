@@ -7,11 +7,11 @@ use Rattle.std.specs.Str.{bytes_eq}
 use Rattle.pr_value.specs.Symbols.{Symbol}
 use Rattle.pr_value.specs.SymbolSets.{contains}
 use Rattle.pr_value.specs.declared.kind.Kind.TheVariants as kind
-use Rattle.rule_syntax.specs.CostForms.{cost_name}
-use Rattle.rule_syntax.specs.CostGiven.{value_given}
-use Rattle.rule_syntax.specs.Descs.{irule_descs}
-use Rattle.rule_syntax.specs.Syntax.{Stmt, set, copy, IRule, Rules}
-use Rattle.rule_syntax.specs.Typing.{Context, Signature, fits_property, is_type, is_typed_stmt, property_kind, signatures_of, type_of}
+use Rattle.rule_ast.specs.CostForms.{cost_name}
+use Rattle.rule_ast.specs.CostGiven.{value_given}
+use Rattle.rule_ast.specs.Descs.{irule_descs}
+use Rattle.rule_ast.specs.Syntax.{Stmt, set, copy, IRule, Rules}
+use Rattle.rule_ast.specs.Typing.{Context, Signature, fits_property, is_type, is_typed_stmt, property_kind, signatures_of, type_of}
 use Rattle.pr_value.specs.declared.property.Property.{Property}
 use Rattle.rule_types.specs.AcceptedLaws.{gives_number, is_typed_irule}
 use Rattle.rule_types.specs.LaterConditions.{cost_of, holds_of}

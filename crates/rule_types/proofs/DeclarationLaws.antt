@@ -3,8 +3,8 @@ use Rattle.std.proofs.Common.{◌≡◌, Bool, true, false, ◌||◌, List, [], 
 use Rattle.std.proofs.lemmas.Bool.{and_from, or_from, or_parts}
 use Rattle.std.proofs.lemmas.List.Folds.{list_any-append}
 use Rattle.std.specs.List.{list_all, list_any}
-use Rattle.rule_syntax.specs.declared.parts.Algorithm.{Algorithm}
-use Rattle.rule_syntax.specs.Syntax.{Operator, TRule, IRule, Rules}
+use Rattle.rule_ast.specs.declared.parts.Algorithm.{Algorithm}
+use Rattle.rule_ast.specs.Syntax.{Operator, TRule, IRule, Rules}
 use Rattle.rule_types.specs.Declarations.{Placed, Declaration, property, operator, algorithm, helper, trule, irule, declarations, placed, placed_behind}
 
 abbrev pub at : {A : Type 0} → List A → A → Placed A

@@ -7,15 +7,15 @@ use Rattle.std.specs.Str.{bytes_eq}
 use Rattle.pr_value.specs.Symbols.{Symbol}
 use Rattle.pr_value.specs.SymbolSets.{contains}
 use Rattle.pr_value.specs.Trees.{Tree, label}
-use Rattle.rule_syntax.specs.Roles.{assigns, has_root, is_null, leads_to_null}
-use Rattle.rule_syntax.specs.Seen.{left_input_level, left_level, seen_irule, seen_stmt}
-use Rattle.rule_syntax.specs.Syntax.{LeftLabel}
-use Rattle.rule_syntax.specs.declared.expr.Expr as expr
-use Rattle.rule_syntax.specs.declared.expr.Stmt as stmt
-use Rattle.rule_syntax.specs.declared.expr.Stmt.TheVariants as stmts
-use Rattle.rule_syntax.specs.declared.parts.IRule.{IRule}
-use Rattle.rule_syntax.specs.declared.sides.Left.{out-Left}
-use Rattle.rule_syntax.specs.declared.sides.LeftIn.TheFolds.{fold_out-Left}
+use Rattle.rule_ast.specs.Roles.{assigns, has_root, is_null, leads_to_null}
+use Rattle.rule_ast.specs.Seen.{left_input_level, left_level, seen_irule, seen_stmt}
+use Rattle.rule_ast.specs.Syntax.{LeftLabel}
+use Rattle.rule_ast.specs.declared.expr.Expr as expr
+use Rattle.rule_ast.specs.declared.expr.Stmt as stmt
+use Rattle.rule_ast.specs.declared.expr.Stmt.TheVariants as stmts
+use Rattle.rule_ast.specs.declared.parts.IRule.{IRule}
+use Rattle.rule_ast.specs.declared.sides.Left.{out-Left}
+use Rattle.rule_ast.specs.declared.sides.LeftIn.TheFolds.{fold_out-Left}
 
 both_plain : (a : Bool) → (a || false) ≡ (a && true)
 both_plain true = refl

@@ -11,8 +11,8 @@ use Rattle.pr_value.specs.Symbols.{Symbol}
 use Rattle.pr_value.specs.SymbolSets.{compare_symbols, contains}
 use Rattle.pr_value.specs.declared.property.Property.{Property}
 use Rattle.pr_value.proofs.MemberLaws.{contains-set_of}
-use Rattle.rule_syntax.specs.Typing.{var_type, property_kind, params_context, type_of_kind}
-use Rattle.rule_syntax.specs.declared.parts.Param.{Param}
+use Rattle.rule_ast.specs.Typing.{var_type, property_kind, params_context, type_of_kind}
+use Rattle.rule_ast.specs.declared.parts.Param.{Param}
 use Rattle.rule_types.specs.Declarations.{param_names}
 
 pub property_kind-find : (ps : List Property) (name : Symbol) → property_kind ps name ≡ option_map (λ p. p.kind) (find (λ p. bytes_eq p.name name) ps)

@@ -3,7 +3,7 @@ use Rattle.std.proofs.Common.{◌≡◌, ℕ, zero, suc, Bool, true, false, cond
 use Rattle.std.specs.List.{list_any, find}
 use Rattle.std.specs.Option.{option_map, option_or}
 use Rattle.pr_value.specs.Symbols.{Symbol}
-use Rattle.rule_syntax.specs.Syntax.{Rules}
+use Rattle.rule_ast.specs.Syntax.{Rules}
 use Rattle.rule_types.specs.Conditions.{conditions, first_name, first_refused, has_cost, holds, left_not_flat, left_stream_twice, named_by, refused_by, stream_order, too_many, too_many_nodes, two_costs, two_names, unknown_name, wrong_arity, wrong_type}
 use Rattle.rule_types.specs.Declarations.{declarations, declared_name}
 use Rattle.rule_types.specs.LaterConditions.{assign_target, copy_place, cost_assigned, cost_form, cost_missing, cost_read, enforcer_left, enforcer_root, input_in_post, input_not_physical, null_form, physical_in_trule}

@@ -3,16 +3,16 @@ use Rattle.std.proofs.Common.{◌≡◌, ℕ, ◌+◌, ◌<◌, min, Bool, ◌||
 use Rattle.std.proofs.lemmas.List.{length-map, take_more, flat_map_more}
 use Rattle.pr_value.specs.Trees.{Tree, trees_of, list_of}
 use Rattle.pr_value.proofs.TreeLaws.{list_of_trees_of}
-use Rattle.rule_syntax.specs.Syntax.{LeftLabel, RightLabel}
-use Rattle.rule_syntax.specs.Seen.{seen_left, seen_left_in, left_level, left_input_level, seen_right, seen_right_in, right_level, right_input_level}
-use Rattle.rule_syntax.specs.declared.sides.Left as left
-use Rattle.rule_syntax.specs.declared.sides.Left.{out-Left}
-use Rattle.rule_syntax.specs.declared.sides.LeftIn as left_in
-use Rattle.rule_syntax.specs.declared.sides.LeftIn.TheFolds.{fold_out-Left}
-use Rattle.rule_syntax.specs.declared.sides.Right as right
-use Rattle.rule_syntax.specs.declared.sides.Right.{out-Right}
-use Rattle.rule_syntax.specs.declared.sides.RightIn as right_in
-use Rattle.rule_syntax.specs.declared.sides.RightIn.TheFolds.{fold_out-Right}
+use Rattle.rule_ast.specs.Syntax.{LeftLabel, RightLabel}
+use Rattle.rule_ast.specs.Seen.{seen_left, seen_left_in, left_level, left_input_level, seen_right, seen_right_in, right_level, right_input_level}
+use Rattle.rule_ast.specs.declared.sides.Left as left
+use Rattle.rule_ast.specs.declared.sides.Left.{out-Left}
+use Rattle.rule_ast.specs.declared.sides.LeftIn as left_in
+use Rattle.rule_ast.specs.declared.sides.LeftIn.TheFolds.{fold_out-Left}
+use Rattle.rule_ast.specs.declared.sides.Right as right
+use Rattle.rule_ast.specs.declared.sides.Right.{out-Right}
+use Rattle.rule_ast.specs.declared.sides.RightIn as right_in
+use Rattle.rule_ast.specs.declared.sides.RightIn.TheFolds.{fold_out-Right}
 use Rattle.rule_types.proofs.NodeLaws.{one-capped}
 use Rattle.rule_types.specs.Uses.{any_node, any_nodes, streams, streams_of, nodes, nodes_of, counts_left, counts_right}
 

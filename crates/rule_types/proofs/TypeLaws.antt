@@ -3,8 +3,8 @@ use Rattle.std.proofs.Common.{◌≡◌, ℕ, suc, ◌+◌, ◌<◌, ◌≤◌, 
 use Rattle.std.proofs.lemmas.List.{drop_all}
 use Rattle.std.specs.Option.{option_map, option_and_then}
 use Rattle.pr_value.specs.declared.kind.Kind.{Kind}
-use Rattle.rule_syntax.specs.Seen.{seen_expr, exprs_of}
-use Rattle.rule_syntax.specs.declared.expr.Expr as rust
+use Rattle.rule_ast.specs.Seen.{seen_expr, exprs_of}
+use Rattle.rule_ast.specs.declared.expr.Expr as rust
 use Rattle.rule_types.specs.Scopes.{type_in, types_in}
 use Rattle.rule_types.specs.declared.context.Scope.{Scope}
 use Rattle.rule_types.specs.declared.folds.Folds.{Folds}

@@ -2,9 +2,9 @@
 use Rattle.std.proofs.Common.{◌≡◌, List, [], ◌∷◌, length, map, refl, ap, ◌∙◌, arith}
 use Rattle.pr_value.specs.Symbols.{Symbol}
 use Rattle.pr_value.specs.declared.property.Property.{Property}
-use Rattle.rule_syntax.specs.Seen.{seen_expr, exprs_of}
-use Rattle.rule_syntax.specs.declared.expr.Expr as rust
-use Rattle.rule_syntax.specs.Syntax.{Helper}
+use Rattle.rule_ast.specs.Seen.{seen_expr, exprs_of}
+use Rattle.rule_ast.specs.declared.expr.Expr as rust
+use Rattle.rule_ast.specs.Syntax.{Helper}
 use Rattle.rule_types.specs.Conditions.{is_unknown_use}
 use Rattle.rule_types.specs.Declarations.{Declaration}
 use Rattle.rule_types.specs.Uses.{count, uses}

@@ -1,7 +1,7 @@
 -- How many arguments the built-in functions take.
 use Rattle.std.specs.Prelude.{ℕ, Bool, false, ◌||◌, ◌==◌, Option, Some, None}
-use Rattle.rule_syntax.specs.declared.table.Builtin.{Builtin}
-use Rattle.rule_syntax.specs.declared.table.Builtin.TheVariants as builtin
+use Rattle.rule_ast.specs.declared.table.Builtin.{Builtin}
+use Rattle.rule_ast.specs.declared.table.Builtin.TheVariants as builtin
 
 -- as many as the keys of a look-up, and its table
 abbrev pub is_lookup : ℕ → Bool

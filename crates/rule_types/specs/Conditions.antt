@@ -8,13 +8,13 @@ use Rattle.pr_value.specs.Symbols.{Symbol}
 use Rattle.pr_value.specs.SymbolSets.{contains}
 use Rattle.pr_value.specs.declared.kind.Kind.TheVariants as kinds
 use Rattle.pr_value.specs.declared.property.Property.{Property}
-use Rattle.rule_syntax.specs.declared.parts.Algorithm.{Algorithm}
-use Rattle.rule_syntax.specs.declared.sides.AlgName.{AlgName}
-use Rattle.rule_syntax.specs.declared.sides.AlgName.TheVariants as alg
-use Rattle.rule_syntax.specs.declared.sides.ImplSide.{ImplSide}
-use Rattle.rule_syntax.specs.CostForms.{is_cost}
-use Rattle.rule_syntax.specs.Syntax.{LeftLabel, RightLabel, Operator, Helper, Body, TRule, IRule, Rules}
-use Rattle.rule_syntax.specs.Typing.{Context, Signature, builtins, is_builtin, helper_signature, signatures_of, params_context, type_of_kind, type_of, is_type, is_typed_stmt}
+use Rattle.rule_ast.specs.declared.parts.Algorithm.{Algorithm}
+use Rattle.rule_ast.specs.declared.sides.AlgName.{AlgName}
+use Rattle.rule_ast.specs.declared.sides.AlgName.TheVariants as alg
+use Rattle.rule_ast.specs.declared.sides.ImplSide.{ImplSide}
+use Rattle.rule_ast.specs.CostForms.{is_cost}
+use Rattle.rule_ast.specs.Syntax.{LeftLabel, RightLabel, Operator, Helper, Body, TRule, IRule, Rules}
+use Rattle.rule_ast.specs.Typing.{Context, Signature, builtins, is_builtin, helper_signature, signatures_of, params_context, type_of_kind, type_of, is_type, is_typed_stmt}
 use Rattle.rule_types.specs.Declarations.{Placed, Declaration, property, operator, algorithm, helper, trule, irule, declarations, declared_name, descs_of, params_of, helpers_of}
 use Rattle.rule_types.specs.LaterConditions.{copy_place, assign_target, input_in_post, cost_assigned, cost_missing, cost_read, cost_form, null_form, enforcer_left, enforcer_root, physical_in_trule, input_not_physical}
 use Rattle.rule_types.specs.Uses.{variable, reading, calling, folding, assigning, copying, Question, uses, any_node, streams, nodes, counts_left, counts_right}

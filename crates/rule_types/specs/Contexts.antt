@@ -1,8 +1,8 @@
 -- The names that an expression may use, as the definitions see them.
 use Rattle.std.specs.Prelude.{List}
 use Rattle.pr_value.specs.Symbols.{Symbol}
-use Rattle.rule_syntax.specs.Typing.{Context, params_context}
-use Rattle.rule_syntax.specs.declared.parts.Param.{Param}
+use Rattle.rule_ast.specs.Typing.{Context, params_context}
+use Rattle.rule_ast.specs.declared.parts.Param.{Param}
 use Rattle.rule_types.specs.declared.context.Context as context
 
 -- these descriptors and parameters

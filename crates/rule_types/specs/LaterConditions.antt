@@ -5,12 +5,12 @@ use Rattle.std.specs.Str.{bytes_eq}
 use Rattle.pr_value.specs.Symbols.{Symbol}
 use Rattle.pr_value.specs.SymbolSets.{contains}
 use Rattle.pr_value.specs.Trees.{Tree, label}
-use Rattle.rule_syntax.specs.CostForms.{cost_name, is_cost_form, reads_cost_of}
-use Rattle.rule_syntax.specs.CostGiven.{cost_given}
-use Rattle.rule_syntax.specs.Descs.{names_of}
-use Rattle.rule_syntax.specs.Roles.{is_enforcer, is_null, is_physical}
-use Rattle.rule_syntax.specs.Syntax.{Expr, read, Stmt, set, copy, LeftLabel, RightLabel, Body, IRule, Rules}
-use Rattle.rule_syntax.specs.declared.sides.ImplIn.{ImplIn}
+use Rattle.rule_ast.specs.CostForms.{cost_name, is_cost_form, reads_cost_of}
+use Rattle.rule_ast.specs.CostGiven.{cost_given}
+use Rattle.rule_ast.specs.Descs.{names_of}
+use Rattle.rule_ast.specs.Roles.{is_enforcer, is_null, is_physical}
+use Rattle.rule_ast.specs.Syntax.{Expr, read, Stmt, set, copy, LeftLabel, RightLabel, Body, IRule, Rules}
+use Rattle.rule_ast.specs.declared.sides.ImplIn.{ImplIn}
 use Rattle.rule_types.specs.Declarations.{Declaration, operator, trule, irule}
 use Rattle.rule_types.specs.Uses.{reading, assigning, copying, Question, any_use_in, any_use_of, uses, any_node}
 

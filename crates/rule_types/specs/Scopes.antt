@@ -3,9 +3,9 @@ use Rattle.std.specs.Prelude.{List, ◌∷◌, map, Option}
 use Rattle.pr_value.specs.Symbols.{Symbol}
 use Rattle.pr_value.specs.declared.kind.Kind.{Kind}
 use Rattle.pr_value.specs.declared.kind.Kind.TheVariants as kind
-use Rattle.rule_syntax.specs.Seen.{seen_helper}
-use Rattle.rule_syntax.specs.Syntax.{Expr, Exprs}
-use Rattle.rule_syntax.specs.Typing.{Context, params_context, signatures_of, type_of, types_of}
+use Rattle.rule_ast.specs.Seen.{seen_helper}
+use Rattle.rule_ast.specs.Syntax.{Expr, Exprs}
+use Rattle.rule_ast.specs.Typing.{Context, params_context, signatures_of, type_of, types_of}
 use Rattle.rule_types.specs.declared.context.Scope.{Scope}
 use Rattle.rule_types.specs.declared.folds.Folds.{Folds}
 use Rattle.rule_types.specs.declared.folds.Folds.TheOpen.{Folds-F}

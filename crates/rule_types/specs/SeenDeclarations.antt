@@ -1,6 +1,6 @@
 -- The declarations of the code, as the definitions see them.
 use Rattle.std.specs.Prelude.{map}
-use Rattle.rule_syntax.specs.Seen.{seen_operator, seen_helper, seen_trule, seen_irule}
+use Rattle.rule_ast.specs.Seen.{seen_operator, seen_helper, seen_trule, seen_irule}
 use Rattle.rule_types.specs.Declarations.{Declaration, property, operator, algorithm, helper, trule, irule}
 use Rattle.rule_types.specs.declared.declaration.Declaration as declaration
 use Rattle.rule_types.specs.declared.declaration.Declaration.TheVariants as variant

@@ -1,5 +1,5 @@
 ghost use Rattle.std.specs.Prelude.{◌≡◌, None, IfOk, IfErr};
-ghost use Rattle.rule_syntax.specs.SeenRules.{seen_rules};
+ghost use Rattle.rule_ast.specs.SeenRules.{seen_rules};
 ghost use Rattle.rule_types.specs.Acceptance.{IsTold};
 ghost use Rattle.rule_types.specs.Conditions as spec;
 
@@ -8,11 +8,11 @@ use crate::refusal::{RefusalKind, Refused};
 use crate::refusing::refused_by;
 use descriptor_types::Layout;
 use pr_value::{Memory, Symbol};
-use rule_syntax::Rules;
+use rule_ast::Rules;
 use std::alloc::Global;
 
 /// Why a rule set is not accepted.
-#[derive(Debug, Drop)]
+#[derive(Drop)]
 pub enum AcceptError {
     /// The condition holds, and none that is asked before it does.
     Refused { kind: RefusalKind, name: Symbol },

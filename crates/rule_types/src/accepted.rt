@@ -1,12 +1,12 @@
 ghost use Rattle.std.specs.Prelude.{◌≡◌, None};
-ghost use Rattle.rule_syntax.specs.SeenRules.{seen_rules};
+ghost use Rattle.rule_ast.specs.SeenRules.{seen_rules};
 ghost use Rattle.rule_types.specs.Conditions.{refused_by};
 
 use descriptor_types::Layout;
-use rule_syntax::Rules;
+use rule_ast::Rules;
 
 /// A rule set in which no condition of refusal holds, with the layout of its descriptors.
-#[derive(Debug, Drop)]
+#[derive(Drop)]
 pub struct Accepted {
     pub rules: Rules,
     pub layout: Layout,

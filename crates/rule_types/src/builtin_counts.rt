@@ -1,11 +1,11 @@
 // How many arguments the built-in functions take.
 ghost use Rattle.std.specs.Prelude.{◌≡◌};
-ghost use Rattle.rule_syntax.specs.Typing.{builtins};
+ghost use Rattle.rule_ast.specs.Typing.{builtins};
 ghost use Rattle.rule_types.specs.BuiltinCounts.{is_lookup, takes};
 ghost use Rattle.rule_types.specs.Conditions.{has_signature};
 
 use pr_value::Symbol;
-use rule_syntax::{Builtin, builtin_of};
+use rule_ast::{Builtin, builtin_of};
 
 fn is_lookup(arguments: usize) -> bool
     ensures { result ≡ is_lookup arguments }

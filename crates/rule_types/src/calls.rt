@@ -1,14 +1,14 @@
 ghost use Rattle.std.specs.Prelude.{◌≡◌, [], ◌∷◌, map, option_map, option_and_then, if◌then◌else◌};
 ghost use Rattle.std.specs.List.{list_all, zip};
 ghost use Rattle.std.specs.Str.{bytes_eq};
-ghost use Rattle.rule_syntax.specs.Seen.{seen_helper};
-ghost use Rattle.rule_syntax.specs.Typing.{helper_result, helper_signature, call_type, signatures_of, type_of_kind, same_type, same_types};
+ghost use Rattle.rule_ast.specs.Seen.{seen_helper};
+ghost use Rattle.rule_ast.specs.Typing.{helper_result, helper_signature, call_type, signatures_of, type_of_kind, same_type, same_types};
 
 use pr_value::{Kind, Symbol};
-use rule_syntax::{Helper, Param, builtin_result, is_builtin, same_type, type_of_kind};
+use rule_ast::{Helper, Param, builtin_result, is_builtin, same_type, type_of_kind};
 
 // Whether the parameters are as many as the types, and each is of its own.
-#[tactic(auto, using(rule_syntax::proofs::KindLaws::kind_laws))]
+#[tactic(auto, using(rule_ast::proofs::KindLaws::kind_laws))]
 fn takes(params: &[Param], types: &[Kind]) -> bool
     ensures { result ≡ same_types (map (λ p. type_of_kind p.kind) params.now) types.now }
 {

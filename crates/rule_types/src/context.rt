@@ -2,11 +2,11 @@ ghost use Rattle.std.specs.Prelude.{◌≡◌};
 ghost use Rattle.std.specs.BTreeMap.{get};
 ghost use Rattle.pr_value.specs.SymbolSets.{compare_symbols, contains, set_of};
 ghost use Rattle.pr_value.specs.Symbols as spec;
-ghost use Rattle.rule_syntax.specs.Typing.{params_context, var_type};
+ghost use Rattle.rule_ast.specs.Typing.{params_context, var_type};
 
 use crate::param_types::types_of;
 use pr_value::{Kind, Memory, Property, SymSet, Symbol, copy_symbols};
-use rule_syntax::{Helper, Param};
+use rule_ast::{Helper, Param};
 use std::alloc::Global;
 use std::collections::BTreeMap;
 

@@ -1,5 +1,5 @@
 use pr_value::Property;
-use rule_syntax::{Algorithm, Helper, IRule, Operator, TRule};
+use rule_ast::{Algorithm, Helper, IRule, Operator, TRule};
 
 /// A declaration of a rule set, and those of its section that stand before it.
 #[derive(Clone, Copy)]

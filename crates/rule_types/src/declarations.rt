@@ -1,14 +1,14 @@
 // The declarations of a rule set, one section after another.
 ghost use Rattle.std.specs.Prelude.{◌≡◌, ◌++◌, map, IfOk, OnOk};
-ghost use Rattle.rule_syntax.specs.Seen.{seen_operator, seen_helper, seen_trule, seen_irule};
-ghost use Rattle.rule_syntax.specs.SeenRules.{seen_rules};
+ghost use Rattle.rule_ast.specs.Seen.{seen_operator, seen_helper, seen_trule, seen_irule};
+ghost use Rattle.rule_ast.specs.SeenRules.{seen_rules};
 ghost use Rattle.rule_types.specs.Declarations as spec;
 ghost use Rattle.rule_types.specs.Declarations.{placed, declared_name, property, operator, algorithm, helper, trule, irule};
 ghost use Rattle.rule_types.specs.SeenDeclarations.{seen_declaration};
 
 use crate::declaration::Declaration;
 use pr_value::{Memory, Property, Symbol};
-use rule_syntax::{Algorithm, Helper, IRule, Operator, Rules, TRule};
+use rule_ast::{Algorithm, Helper, IRule, Operator, Rules, TRule};
 use std::alloc::Global;
 
 fn push_properties<'a>(

@@ -1,11 +1,11 @@
 // Whether a name is one of those that are declared in a list.
 ghost use Rattle.std.specs.Prelude.{◌≡◌, map};
 ghost use Rattle.pr_value.specs.SymbolSets.{contains};
-ghost use Rattle.rule_syntax.specs.Seen.{seen_operator, seen_helper, seen_trule, seen_irule};
+ghost use Rattle.rule_ast.specs.Seen.{seen_operator, seen_helper, seen_trule, seen_irule};
 ghost use Rattle.rule_types.specs.Conditions.{property_names, operator_names, algorithm_names, helper_names, trule_names, irule_names};
 
 use pr_value::{Property, Symbol};
-use rule_syntax::{Algorithm, Helper, IRule, Operator, TRule};
+use rule_ast::{Algorithm, Helper, IRule, Operator, TRule};
 
 pub fn is_property(properties: &[Property], name: &Symbol) -> bool
     ensures { result ≡ contains (property_names properties.now) name.now }

@@ -1,11 +1,11 @@
 ghost use Rattle.std.specs.Prelude.{◌≡◌, [], map, IfOk};
-ghost use Rattle.rule_syntax.specs.Seen.{seen_expr, seen_helper};
-ghost use Rattle.rule_syntax.specs.Typing.{type_of, type_of_kind, is_type, params_context, are_typed, signatures_of};
+ghost use Rattle.rule_ast.specs.Seen.{seen_expr, seen_helper};
+ghost use Rattle.rule_ast.specs.Typing.{type_of, type_of_kind, is_type, params_context, are_typed, signatures_of};
 
 use crate::context::Context;
 use crate::typing::type_of;
 use pr_value::{Memory, Property};
-use rule_syntax::{Helper, is_type, type_of_kind};
+use rule_ast::{Helper, is_type, type_of_kind};
 use std::alloc::Global;
 
 fn is_typed_helper(

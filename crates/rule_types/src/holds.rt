@@ -1,7 +1,7 @@
 // Where a condition holds.
 ghost use Rattle.std.specs.Prelude.{◌≡◌, map, option_map, option_copied, IfOk};
 ghost use Rattle.std.specs.List.{find};
-ghost use Rattle.rule_syntax.specs.SeenRules.{seen_rules};
+ghost use Rattle.rule_ast.specs.SeenRules.{seen_rules};
 ghost use Rattle.rule_types.specs.Conditions as spec;
 ghost use Rattle.rule_types.specs.Declarations as declared;
 ghost use Rattle.rule_types.specs.SeenDeclarations.{seen_declaration};

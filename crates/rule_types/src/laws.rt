@@ -1,5 +1,5 @@
 // What is known of a rule set that is accepted.
-ghost use Rattle.rule_syntax.specs.SeenRules.{seen_rules};
+ghost use Rattle.rule_ast.specs.SeenRules.{seen_rules};
 ghost use Rattle.rule_types.specs.AcceptedLaws.{AssignsCostsLast, AssignsPhysical, ChangesItsOwn, GivesCosts, HasArities, HasDistinctDescs, HasDistinctNames, HasKnownSides, HasNoCopies, HasOneCost, HasSoundNulls, HasSoundSides, IsWellTyped, IsWithinLimits, ReadsCostsLast};
 
 use crate::accepted::Accepted;

@@ -3,13 +3,13 @@ ghost use Rattle.std.specs.List.{find};
 ghost use Rattle.std.specs.Option.{option_copied};
 ghost use Rattle.std.specs.Str.{bytes_eq};
 ghost use Rattle.pr_value.specs.SymbolSets.{contains};
-ghost use Rattle.rule_syntax.specs.Typing.{var_type, property_kind, type_of_kind};
+ghost use Rattle.rule_ast.specs.Typing.{var_type, property_kind, type_of_kind};
 ghost use Rattle.rule_types.specs.Scopes.{scope_context};
 
 use crate::context::Scope;
 use crate::folds::Folds;
 use pr_value::{Kind, Property, Symbol};
-use rule_syntax::type_of_kind;
+use rule_ast::type_of_kind;
 
 /// The type of a fold's name or a parameter.
 pub fn var_type(scope: &Scope, folds: &Folds, x: &Symbol) -> Option<Kind>

@@ -1,10 +1,10 @@
 // How many operators a side has.
 ghost use Rattle.std.specs.Prelude.{◌≡◌, ◌-◌, ◌^◌, min, map};
 ghost use Rattle.pr_value.specs.Trees.{trees_of};
-ghost use Rattle.rule_syntax.specs.Seen.{seen_left, seen_left_in, seen_right, seen_right_in};
+ghost use Rattle.rule_ast.specs.Seen.{seen_left, seen_left_in, seen_right, seen_right_in};
 ghost use Rattle.rule_types.specs.Uses.{nodes, nodes_of, counts_left, counts_right};
 
-use rule_syntax::{Left, LeftIn, Right, RightIn};
+use rule_ast::{Left, LeftIn, Right, RightIn};
 
 /// How many operators a left side has, up to the greatest number.
 #[cycle(left_nodes)]

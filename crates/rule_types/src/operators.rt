@@ -1,10 +1,10 @@
 ghost use Rattle.std.specs.Prelude.{◌≡◌, ◌&&◌, Some, None, nat_le, option_map, option_and_then, if◌then◌else◌};
 ghost use Rattle.std.specs.List.{list_all};
 ghost use Rattle.pr_value.specs.Capped.{cap};
-ghost use Rattle.rule_syntax.specs.Typing.{same_type, binary_type, is_collection, member_type, fold_type, of_symbols, is_symbol_type};
+ghost use Rattle.rule_ast.specs.Typing.{same_type, binary_type, is_collection, member_type, fold_type, of_symbols, is_symbol_type};
 
 use pr_value::{CAP, Kind};
-use rule_syntax::{BinOp, FoldKind, same_type};
+use rule_ast::{BinOp, FoldKind, same_type};
 
 /// The type of a number, where it is within the cap.
 pub fn number_type(n: u64) -> Option<Kind>

@@ -4,10 +4,10 @@ ghost use Rattle.std.specs.BTreeMap.{get};
 ghost use Rattle.std.specs.Str.{bytes_eq};
 ghost use Rattle.pr_value.specs.SymbolSets.{compare_symbols};
 ghost use Rattle.pr_value.specs.Symbols as spec;
-ghost use Rattle.rule_syntax.specs.Typing.{params_context, type_of_kind, var_type};
+ghost use Rattle.rule_ast.specs.Typing.{params_context, type_of_kind, var_type};
 
 use pr_value::{Kind, Memory, Symbol};
-use rule_syntax::{Param, type_of_kind};
+use rule_ast::{Param, type_of_kind};
 use std::alloc::Global;
 use std::collections::BTreeMap;
 

@@ -1,7 +1,7 @@
 use pr_value::Symbol;
 
 /// Why a rule set is not accepted, in the order in which the conditions are asked.
-#[derive(Clone, Copy, PartialEq, Eq, Debug)]
+#[derive(Clone, Copy, PartialEq, Eq)]
 pub enum RefusalKind {
     /// More than 64 properties, or more than 255 operators, algorithms, helpers, T-rules or
     /// I-rules; named is the first past its limit.
@@ -58,7 +58,7 @@ pub enum RefusalKind {
 }
 
 /// A condition that holds, and the name that is told with it.
-#[derive(Debug, Drop)]
+#[derive(Drop)]
 pub struct Refused {
     pub kind: RefusalKind,
     pub name: Symbol,

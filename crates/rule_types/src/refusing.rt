@@ -1,6 +1,6 @@
 // The first condition of refusal that holds.
 ghost use Rattle.std.specs.Prelude.{◌≡◌, Some, None, map, option_copied, codes, IfOk, if◌then◌else◌};
-ghost use Rattle.rule_syntax.specs.SeenRules.{seen_rules};
+ghost use Rattle.rule_ast.specs.SeenRules.{seen_rules};
 ghost use Rattle.rule_types.specs.Conditions as spec;
 ghost use Rattle.rule_types.specs.Declarations as declared;
 ghost use Rattle.rule_types.specs.SeenDeclarations.{seen_declaration};
@@ -12,7 +12,7 @@ use crate::holds::first_name;
 use crate::refusal::{RefusalKind, Refused};
 use crate::roles::Roles;
 use pr_value::{Memory, Property, Symbol};
-use rule_syntax::Rules;
+use rule_ast::Rules;
 use std::alloc::Global;
 
 const CONDITIONS: [RefusalKind; 24] = [

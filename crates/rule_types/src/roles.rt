@@ -3,13 +3,13 @@ ghost use Rattle.std.specs.Prelude.{◌≡◌, ◌||◌, map, IfOk, OnOk};
 ghost use Rattle.std.specs.List.{list_any};
 ghost use Rattle.pr_value.specs.SymbolSets.{contains};
 ghost use Rattle.pr_value.specs.Symbols as spec;
-ghost use Rattle.rule_syntax.specs.CostForms as costs;
-ghost use Rattle.rule_syntax.specs.Descs as descs;
-ghost use Rattle.rule_syntax.specs.Roles.{assigns, is_enforcer, is_null, is_physical, leads_to_null, passes_on};
-ghost use Rattle.rule_syntax.specs.Seen.{seen_irule, seen_stmt};
+ghost use Rattle.rule_ast.specs.CostForms as costs;
+ghost use Rattle.rule_ast.specs.Descs as descs;
+ghost use Rattle.rule_ast.specs.Roles.{assigns, is_enforcer, is_null, is_physical, leads_to_null, passes_on};
+ghost use Rattle.rule_ast.specs.Seen.{seen_irule, seen_stmt};
 
 use pr_value::{Memory, SymSet, Symbol, copy_symbols};
-use rule_syntax::{AlgName, IRule, ImplIn, Rules, Stmt, cost_name, names_of};
+use rule_ast::{AlgName, IRule, ImplIn, Rules, Stmt, cost_name, names_of};
 use std::alloc::Global;
 
 /// A rule set, with what its I-rules say of operators and properties.

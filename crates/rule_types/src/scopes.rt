@@ -1,15 +1,15 @@
 // What the statements and expressions of a declaration may name.
 ghost use Rattle.std.specs.Prelude.{◌≡◌, map, IfOk};
-ghost use Rattle.rule_syntax.specs.Seen.{seen_helper};
-ghost use Rattle.rule_syntax.specs.SeenRules.{seen_rules};
-ghost use Rattle.rule_syntax.specs.Typing.{params_context};
+ghost use Rattle.rule_ast.specs.Seen.{seen_helper};
+ghost use Rattle.rule_ast.specs.SeenRules.{seen_rules};
+ghost use Rattle.rule_ast.specs.Typing.{params_context};
 ghost use Rattle.rule_types.specs.Conditions.{context_of};
 ghost use Rattle.rule_types.specs.Declarations as spec;
 ghost use Rattle.rule_types.specs.SeenDeclarations.{seen_declaration};
 
 use crate::declaration::Declaration;
 use pr_value::{Items, Memory, Symbol};
-use rule_syntax::{Helper, Param, Rules, irule_descs, operator_descs, trule_descs};
+use rule_ast::{Helper, Param, Rules, irule_descs, operator_descs, trule_descs};
 use std::alloc::Global;
 
 /// The descriptors.

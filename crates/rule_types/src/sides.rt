@@ -1,12 +1,12 @@
 // The labels of a side of a rule: one walk for left sides, one for right sides.
 ghost use Rattle.std.specs.Prelude.{◌≡◌, ℕ, Bool, map};
 ghost use Rattle.pr_value.specs.Trees.{trees_of};
-ghost use Rattle.rule_syntax.specs.Seen.{seen_left, seen_left_in, seen_right, seen_right_in};
-ghost use Rattle.rule_syntax.specs.Syntax.{LeftLabel, RightLabel};
+ghost use Rattle.rule_ast.specs.Seen.{seen_left, seen_left_in, seen_right, seen_right_in};
+ghost use Rattle.rule_ast.specs.Syntax.{LeftLabel, RightLabel};
 ghost use Rattle.rule_types.specs.Uses.{any_node, any_nodes};
 
 use pr_value::Symbol;
-use rule_syntax::{Left, LeftIn, Right, RightIn};
+use rule_ast::{Left, LeftIn, Right, RightIn};
 
 /// A question on an operator with its number of inputs, or on a stream of a left side.
 pub trait LeftQuestion {

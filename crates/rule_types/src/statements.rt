@@ -1,14 +1,14 @@
 ghost use Rattle.std.specs.Prelude.{◌≡◌, map, IfOk};
 ghost use Rattle.std.specs.List.{list_all};
-ghost use Rattle.rule_syntax.specs.Seen.{seen_helper, seen_stmt};
-ghost use Rattle.rule_syntax.specs.Typing.{fits_property, is_typed_stmt, signatures_of};
+ghost use Rattle.rule_ast.specs.Seen.{seen_helper, seen_stmt};
+ghost use Rattle.rule_ast.specs.Typing.{fits_property, is_typed_stmt, signatures_of};
 ghost use Rattle.rule_types.specs.Contexts.{seen_context};
 
 use crate::context::Context;
 use crate::names::property_kind;
 use crate::typing::type_of;
 use pr_value::{Kind, Memory, Property};
-use rule_syntax::{Helper, Stmt, is_type, type_of_kind};
+use rule_ast::{Helper, Stmt, is_type, type_of_kind};
 use std::alloc::Global;
 
 fn fits_property(kind: Option<Kind>, value: Option<Kind>) -> bool

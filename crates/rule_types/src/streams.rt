@@ -1,10 +1,10 @@
 // The numbers of the streams of a left side.
 ghost use Rattle.std.specs.Prelude.{◌≡◌, ◌++◌, flat_map, IfOk, OnOk};
-ghost use Rattle.rule_syntax.specs.Seen.{seen_left, seen_left_in};
+ghost use Rattle.rule_ast.specs.Seen.{seen_left, seen_left_in};
 ghost use Rattle.rule_types.specs.Uses as spec;
 
 use pr_value::Memory;
-use rule_syntax::{Left, LeftIn};
+use rule_ast::{Left, LeftIn};
 use std::alloc::Global;
 
 #[cycle(push_streams)]

@@ -1,6 +1,6 @@
 ghost use Rattle.std.specs.Prelude.{◌≡◌, map, option_map, IfOk};
-ghost use Rattle.rule_syntax.specs.Seen.{seen_expr, exprs_of, seen_helper};
-ghost use Rattle.rule_syntax.specs.Typing.{type_of, signatures_of};
+ghost use Rattle.rule_ast.specs.Seen.{seen_expr, exprs_of, seen_helper};
+ghost use Rattle.rule_ast.specs.Typing.{type_of, signatures_of};
 ghost use Rattle.rule_types.specs.Contexts.{seen_context};
 ghost use Rattle.rule_types.specs.Scopes.{type_in, types_in};
 
@@ -10,7 +10,7 @@ use crate::folds::Folds;
 use crate::names::{read_type, var_type};
 use crate::operators::{binary_type, fold_type, number_type, of_symbols};
 use pr_value::{Kind, Memory, Property};
-use rule_syntax::{Expr, Helper};
+use rule_ast::{Expr, Helper};
 use std::alloc::Global;
 
 #[cycle(typing)]

@@ -1,7 +1,7 @@
 // What expressions, statements and declarations use by name: one walk, and a question at each use.
 ghost use Rattle.std.specs.Prelude.{◌≡◌, [], map};
 ghost use Rattle.std.specs.List.{list_any};
-ghost use Rattle.rule_syntax.specs.Seen.{seen_expr, exprs_of, seen_stmt, seen_body};
+ghost use Rattle.rule_ast.specs.Seen.{seen_expr, exprs_of, seen_stmt, seen_body};
 ghost use Rattle.rule_types.specs.SeenDeclarations.{seen_declaration};
 ghost use Rattle.rule_types.specs.SeenUses.{seen_folds, seen_use};
 ghost use Rattle.rule_types.specs.Uses as spec;
@@ -10,7 +10,7 @@ ghost use Rattle.rule_types.specs.Uses.{Question};
 use crate::declaration::Declaration;
 use crate::folds::Folds;
 use pr_value::Symbol;
-use rule_syntax::{Body, Expr, Stmt};
+use rule_ast::{Body, Expr, Stmt};
 
 /// A place at which names are used.
 #[derive(Clone, Copy)]

@@ -6,7 +6,7 @@ use pr_value::{Memory, SymbolError};
 use std::alloc::{AllocError, AllocFailed};
 
 /// Why a part of a catalog is not read.
-#[derive(Clone, Copy, PartialEq, Eq, Debug)]
+#[derive(Clone, Copy, PartialEq, Eq)]
 pub enum PartError {
     /// It is not as it must be.
     Misshapen,

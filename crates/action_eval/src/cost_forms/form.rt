@@ -7,7 +7,7 @@ use pr_value::{Boxed, CAP, Memory, cap_add};
 use std::alloc::Global;
 
 /// A cost as a function of the costs of the inputs.
-#[derive(Debug, Drop)]
+#[derive(Drop)]
 pub enum CostForm {
     /// The same whatever the inputs cost; past 10^18 it counts as 10^18.
     Number(u64),

@@ -3,10 +3,10 @@ ghost use Rattle.std.specs.Str.{bytes_eq};
 ghost use Rattle.pr_value.specs.Repeats.{are_distinct};
 ghost use Rattle.pr_value.specs.Values.{truth_in};
 ghost use Rattle.pr_value.specs.declared.kind.Kind.TheVariants as kind;
-ghost use Rattle.rule_syntax.specs.CostForms as costs;
-ghost use Rattle.rule_syntax.specs.CostForms.{is_cost_form, reads_cost_of};
-ghost use Rattle.rule_syntax.specs.Descs.{names_of};
-ghost use Rattle.rule_syntax.specs.Seen.{seen_expr};
+ghost use Rattle.rule_ast.specs.CostForms as costs;
+ghost use Rattle.rule_ast.specs.CostForms.{is_cost_form, reads_cost_of};
+ghost use Rattle.rule_ast.specs.Descs.{names_of};
+ghost use Rattle.rule_ast.specs.Seen.{seen_expr};
 ghost use Rattle.action_eval.specs.Cost.{cost_of, is_over};
 ghost use Rattle.action_eval.specs.Environments.{IsSound, type_in, value_here};
 ghost use Rattle.action_eval.specs.FormOf.{IsCost, IsFormOf};
@@ -19,7 +19,7 @@ use crate::cost_forms::places::place_of;
 use crate::{Env, eval};
 use catalog::Catalog;
 use pr_value::{CAP, Memory, Symbol, number_in, truth_in};
-use rule_syntax::{BinOp, Expr, ImplIn, cost_name, reads_cost};
+use rule_ast::{BinOp, Expr, ImplIn, cost_name, reads_cost};
 use std::alloc::Global;
 
 /// The form of a cost expression over the costs of these inputs, by their places. What reads no cost

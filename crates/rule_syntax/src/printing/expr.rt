@@ -1,15 +1,15 @@
 // The printers of expressions.
 ghost use Rattle.std.specs.Prelude.{◌≡◌, ◌++◌, codes, map, OnOk};
-ghost use Rattle.rule_syntax.specs.Seen.{seen_expr};
+ghost use Rattle.rule_ast.specs.Seen.{seen_expr};
 ghost use Rattle.rule_syntax.specs.Tokens as text;
 ghost use Rattle.rule_syntax.specs.Tokens.{commas, expr_tokens};
 
-use crate::expr::{Expr, FoldKind};
 use crate::printing::tokens::{
     binop_mark, open_call, push_comma, push_fold_name, push_mark, push_name, push_number,
     push_quoted, push_truth, push_word,
 };
 use pr_value::{Items, Mark, Memory, Symbol, Token};
+use rule_ast::{Expr, FoldKind};
 use std::alloc::Global;
 
 #[cycle(push_expr)]

@@ -1,17 +1,16 @@
 // The printers of statements and declarations.
 ghost use Rattle.std.specs.Prelude.{◌≡◌, ◌++◌, map, OnOk};
-ghost use Rattle.rule_syntax.specs.Seen.{seen_expr, seen_stmt, seen_body, seen_operator, seen_helper};
+ghost use Rattle.rule_ast.specs.Seen.{seen_expr, seen_stmt, seen_body, seen_operator, seen_helper};
 ghost use Rattle.rule_syntax.specs.Tokens as text;
 ghost use Rattle.rule_syntax.specs.Tokens.{block, body_tokens, stmt_tokens, property_tokens, operator_tokens, algorithm_tokens, param_tokens, helper_tokens};
 
-use crate::expr::{Expr, Stmt};
-use crate::parts::{Algorithm, Body, Helper, Operator, Param};
 use crate::printing::expr::{push_expr, push_read};
 use crate::printing::lists::{Printed, push_all, push_listed};
 use crate::printing::tokens::{
     begin, close_side, push_kind, push_mark, push_name, push_number, push_word,
 };
 use pr_value::{Items, Kind, Mark, Memory, Property, Symbol, Token};
+use rule_ast::{Algorithm, Body, Expr, Helper, Operator, Param, Stmt};
 use std::alloc::Global;
 
 /// `desc.property = value;`

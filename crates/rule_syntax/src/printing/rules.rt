@@ -1,18 +1,17 @@
 // The printer of a rule set.
 ghost use Rattle.std.specs.Prelude.{◌≡◌, ◌++◌, OnOk, OnErr};
-ghost use Rattle.rule_syntax.specs.Seen.{seen_trule, seen_irule};
-ghost use Rattle.rule_syntax.specs.SeenRules.{seen_rules};
+ghost use Rattle.rule_ast.specs.Seen.{seen_trule, seen_irule};
+ghost use Rattle.rule_ast.specs.SeenRules.{seen_rules};
 ghost use Rattle.pr_value.specs.TokenTexts.{spaced};
 ghost use Rattle.rule_syntax.specs.Tokens.{tokens_of, trule_tokens, irule_tokens};
 
-use crate::parts::{IRule, TRule};
 use crate::printing::lists::{Printed, push_all};
 use crate::printing::parts::push_body;
 use crate::printing::sides::{push_impl, push_left, push_right};
 use crate::printing::spaced::push_spaced;
 use crate::printing::tokens::{begin, push_mark};
-use crate::rule_set::Rules;
 use pr_value::{Items, Mark, Memory, Text, Token};
+use rule_ast::{IRule, Rules, TRule};
 use std::alloc::Global;
 
 impl Printed for TRule {

@@ -1,6 +1,6 @@
 // The printers of the sides of rules.
 ghost use Rattle.std.specs.Prelude.{◌≡◌, ◌++◌, map, OnOk};
-ghost use Rattle.rule_syntax.specs.Seen.{seen_left, seen_left_in, seen_right, seen_right_in};
+ghost use Rattle.rule_ast.specs.Seen.{seen_left, seen_left_in, seen_right, seen_right_in};
 ghost use Rattle.rule_syntax.specs.Tokens as text;
 ghost use Rattle.rule_syntax.specs.Tokens.{commas, left_tokens, right_tokens, impl_in_tokens, impl_tokens};
 
@@ -8,8 +8,8 @@ use crate::printing::lists::{Printed, push_listed};
 use crate::printing::tokens::{
     close_side, open_call, push_comma, push_desc, push_mark, push_name, push_number, push_word,
 };
-use crate::sides::{AlgName, ImplIn, ImplSide, Left, LeftIn, Right, RightIn};
 use pr_value::{Items, Mark, Memory, Symbol, Token};
+use rule_ast::{AlgName, ImplIn, ImplSide, Left, LeftIn, Right, RightIn};
 use std::alloc::Global;
 
 /// `?number`

@@ -4,8 +4,8 @@ ghost use Rattle.pr_value.specs.Symbols.{is_symbol};
 ghost use Rattle.rule_syntax.specs.Separators.{before_part};
 ghost use Rattle.rule_syntax.specs.Tokens as text;
 
-use crate::expr::{BinOp, FoldKind};
 use pr_value::{Items, Kind, Mark, Memory, Symbol, Token};
+use rule_ast::{BinOp, FoldKind};
 use std::alloc::Global;
 
 pub fn push_mark(mark: Mark, tokens: &mut Items<Token>) -> Result<(), Memory>

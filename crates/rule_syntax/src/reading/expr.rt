@@ -3,13 +3,13 @@ ghost use Rattle.std.specs.Prelude.{◌≡◌, length, map, IfOk};
 ghost use Rattle.rule_syntax.specs.Reading as lists;
 ghost use Rattle.rule_syntax.specs.Reading.{Gives};
 ghost use Rattle.rule_syntax.specs.ReadingExpr as reading;
-ghost use Rattle.rule_syntax.specs.Seen.{seen_expr};
-ghost use Rattle.rule_syntax.specs.Syntax as syntax;
+ghost use Rattle.rule_ast.specs.Seen.{seen_expr};
+ghost use Rattle.rule_ast.specs.Syntax as syntax;
 
-use crate::expr::{BinOp, Expr, FoldKind};
 use crate::reading::stop::Stop;
 use crate::reading::tokens::{after, binop, fold_of, is_free, known, mark, name, truth_of, word};
 use pr_value::{Boxed, CAP, Items, Mark, Memory, Symbol, Token};
+use rule_ast::{BinOp, Expr, FoldKind};
 use std::alloc::Global;
 
 /// The last level of expressions.

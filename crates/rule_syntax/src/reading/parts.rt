@@ -5,16 +5,15 @@ ghost use Rattle.rule_syntax.specs.Levels.{most_levels};
 ghost use Rattle.rule_syntax.specs.Reading as lists;
 ghost use Rattle.rule_syntax.specs.Reading.{Gives};
 ghost use Rattle.rule_syntax.specs.ReadingParts as reading;
-ghost use Rattle.rule_syntax.specs.Seen.{seen_expr, seen_stmt, seen_body, seen_operator, seen_helper};
-ghost use Rattle.rule_syntax.specs.Syntax as syntax;
+ghost use Rattle.rule_ast.specs.Seen.{seen_expr, seen_stmt, seen_body, seen_operator, seen_helper};
+ghost use Rattle.rule_ast.specs.Syntax as syntax;
 
-use crate::expr::{Expr, Stmt};
-use crate::parts::{Algorithm, Body, Helper, Operator, Param};
 use crate::reading::expr::{LEVELS, expr};
 use crate::reading::lists::{Parts, closed, filled};
 use crate::reading::stop::Stop;
 use crate::reading::tokens::{kind, mark, name, next_is_mark, number, word};
 use pr_value::{Items, Mark, Property, Symbol, Token};
+use rule_ast::{Algorithm, Body, Expr, Helper, Operator, Param, Stmt};
 use std::alloc::Global;
 
 fn stmt(alloc: Global, ts: &[Token]) -> Result<(Stmt, &[Token]), Stop>
@@ -201,7 +200,7 @@ impl Parts for Operators {
 pub struct Algorithms;
 
 impl Parts for Algorithms {
-    ghost use Rattle.rule_syntax.specs.declared.parts.Algorithm.{Algorithm};
+    ghost use Rattle.rule_ast.specs.declared.parts.Algorithm.{Algorithm};
 
     type Part = Algorithm;
 
@@ -231,7 +230,7 @@ impl Parts for Algorithms {
 struct Params;
 
 impl Parts for Params {
-    ghost use Rattle.rule_syntax.specs.declared.parts.Param.{Param};
+    ghost use Rattle.rule_ast.specs.declared.parts.Param.{Param};
 
     type Part = Param;
 

@@ -5,16 +5,16 @@ ghost use Rattle.rule_syntax.specs.Levels.{IsQuery};
 ghost use Rattle.rule_syntax.specs.Places.{IsAtPlace};
 ghost use Rattle.rule_syntax.specs.Reading.{Gives, filled_at, listed_at};
 ghost use Rattle.rule_syntax.specs.ReadingQuery as reading;
-ghost use Rattle.rule_syntax.specs.Seen.{seen_query};
-ghost use Rattle.rule_syntax.specs.Spelled.{spells_query};
-ghost use Rattle.rule_syntax.specs.Syntax as syntax;
+ghost use Rattle.rule_ast.specs.Seen.{seen_query};
+ghost use Rattle.rule_ast.specs.Spelled.{spells_query};
+ghost use Rattle.rule_ast.specs.Syntax as syntax;
 
 use crate::error::SyntaxError;
-use crate::query::QueryText;
 use crate::reading::settings::optional_settings;
 use crate::reading::stop::{Stop, refusal};
 use crate::reading::tokens::{after, is, is_free, mark, name, next_is, word};
 use pr_value::{Items, Mark, Token, Tokens};
+use rule_ast::QueryText;
 use std::alloc::Global;
 
 /// The levels that a query may have.

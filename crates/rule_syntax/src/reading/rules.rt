@@ -6,20 +6,19 @@ ghost use Rattle.rule_syntax.specs.Levels.{most_levels, IsRules};
 ghost use Rattle.rule_syntax.specs.Places.{IsAtPlace};
 ghost use Rattle.rule_syntax.specs.Reading.{Gives};
 ghost use Rattle.rule_syntax.specs.ReadingRules as reading;
-ghost use Rattle.rule_syntax.specs.Seen.{seen_trule, seen_irule};
-ghost use Rattle.rule_syntax.specs.SeenRules.{seen_rules};
-ghost use Rattle.rule_syntax.specs.Syntax as syntax;
+ghost use Rattle.rule_ast.specs.Seen.{seen_trule, seen_irule};
+ghost use Rattle.rule_ast.specs.SeenRules.{seen_rules};
+ghost use Rattle.rule_ast.specs.Syntax as syntax;
 
 use crate::error::SyntaxError;
-use crate::parts::{IRule, TRule};
 use crate::reading::expr::LEVELS;
 use crate::reading::lists::{Parts, section};
 use crate::reading::parts::{Algorithms, Helpers, Operators, Properties, body};
 use crate::reading::sides::{impl_side, left, right};
 use crate::reading::stop::{Stop, refusal};
 use crate::reading::tokens::{mark, name, word};
-use crate::rule_set::Rules;
 use pr_value::{Mark, Token, Tokens};
+use rule_ast::{IRule, Rules, TRule};
 use std::alloc::Global;
 
 /// `trule name : left => right body`

@@ -3,11 +3,11 @@ ghost use Rattle.std.specs.Prelude.{◌≡◌, refl};
 ghost use Rattle.rule_syntax.specs.Reading.{Gives, quoted_at};
 ghost use Rattle.rule_syntax.specs.ReadingQuery as reading;
 
-use crate::query::{Literal, Setting};
 use crate::reading::lists::{Parts, closed, filled};
 use crate::reading::stop::Stop;
 use crate::reading::tokens::{known, mark, name, next_is_mark, quoted, truth_of};
 use pr_value::{CAP, Items, Mark, Symbol, Token};
+use rule_ast::{Literal, Setting};
 use std::alloc::Global;
 
 /// Settings between braces, or none without braces.
@@ -55,7 +55,7 @@ fn literal(alloc: Global, ts: &[Token]) -> Result<(Literal, &[Token]), Stop>
 struct Settings;
 
 impl Parts for Settings {
-    ghost use Rattle.rule_syntax.specs.declared.query.Setting.{Setting};
+    ghost use Rattle.rule_ast.specs.declared.query.Setting.{Setting};
 
     type Part = Setting;
 

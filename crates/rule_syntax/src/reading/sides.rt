@@ -2,14 +2,14 @@
 ghost use Rattle.std.specs.Prelude.{◌≡◌, ◌≢◌, length, map, refl};
 ghost use Rattle.rule_syntax.specs.Reading.{Gives, filled_at, listed_at};
 ghost use Rattle.rule_syntax.specs.ReadingSides as sides;
-ghost use Rattle.rule_syntax.specs.Seen.{seen_left, seen_left_in, seen_right, seen_right_in};
-ghost use Rattle.rule_syntax.specs.Syntax.{LeftLabel, RightLabel};
+ghost use Rattle.rule_ast.specs.Seen.{seen_left, seen_left_in, seen_right, seen_right_in};
+ghost use Rattle.rule_ast.specs.Syntax.{LeftLabel, RightLabel};
 
 use crate::reading::lists::{Parts, filled};
 use crate::reading::stop::Stop;
 use crate::reading::tokens::{after, is_free, mark, name, next_is, next_is_mark, number, word};
-use crate::sides::{AlgName, ImplIn, ImplSide, Left, LeftIn, Right, RightIn};
 use pr_value::{Items, Mark, Token};
+use rule_ast::{AlgName, ImplIn, ImplSide, Left, LeftIn, Right, RightIn};
 use std::alloc::Global;
 
 /// Where no level is left: too deep where a name would begin another operator.
@@ -233,7 +233,7 @@ pub fn impl_side(alloc: Global, ts: &[Token]) -> Result<(ImplSide, &[Token]), St
 struct ImplIns;
 
 impl Parts for ImplIns {
-    ghost use Rattle.rule_syntax.specs.declared.sides.ImplIn.{ImplIn};
+    ghost use Rattle.rule_ast.specs.declared.sides.ImplIn.{ImplIn};
 
     type Part = ImplIn;
 

@@ -4,11 +4,11 @@ ghost use Rattle.std.specs.Str.{bytes_eq};
 ghost use Rattle.pr_value.specs.Symbols as symbols;
 ghost use Rattle.rule_syntax.specs.Reading as reading;
 ghost use Rattle.rule_syntax.specs.Reading.{Finds, Gives, mark_at, word_at, name_at, number_at, quoted_at, kind_at, binop_at, begins, marked};
-ghost use Rattle.rule_syntax.specs.Spelled as spelled;
+ghost use Rattle.rule_ast.specs.Spelled as spelled;
 
-use crate::expr::{BinOp, FoldKind};
 use crate::reading::stop::Stop;
 use pr_value::{CAP, Kind, Mark, Symbol, Token};
+use rule_ast::{BinOp, FoldKind};
 use std::alloc::Global;
 
 /// Whether the symbol is this word.

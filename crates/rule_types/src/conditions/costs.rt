@@ -1,13 +1,13 @@
 // Conditions on what is declared a cost.
 ghost use Rattle.std.specs.Prelude.{◌≡◌};
 ghost use Rattle.std.specs.List.{list_any};
-ghost use Rattle.rule_syntax.specs.CostForms as costs;
+ghost use Rattle.rule_ast.specs.CostForms as costs;
 ghost use Rattle.rule_types.specs.Conditions as spec;
 ghost use Rattle.rule_types.specs.SeenDeclarations.{seen_declaration};
 
 use crate::declaration::Declaration;
 use pr_value::Property;
-use rule_syntax::{Param, is_cost};
+use rule_ast::{Param, is_cost};
 
 /// Whether some property is the cost.
 pub fn has_cost(properties: &[Property]) -> bool

@@ -1,7 +1,7 @@
 // Conditions on where enforcers stand, and on where physical properties are assigned.
 ghost use Rattle.std.specs.Prelude.{◌≡◌, map};
-ghost use Rattle.rule_syntax.specs.Seen.{seen_irule, seen_right};
-ghost use Rattle.rule_syntax.specs.SeenRules.{seen_rules};
+ghost use Rattle.rule_ast.specs.Seen.{seen_irule, seen_right};
+ghost use Rattle.rule_ast.specs.SeenRules.{seen_rules};
 ghost use Rattle.rule_types.specs.LaterConditions as spec;
 ghost use Rattle.rule_types.specs.LaterConditions.{assigns_physical, assigns_unphysical, is_left_enforcer, is_plain_node};
 ghost use Rattle.rule_types.specs.SeenDeclarations.{seen_declaration};
@@ -13,7 +13,7 @@ use crate::roles::Roles;
 use crate::sides::{LeftQuestion, RightQuestion, any_left, any_right};
 use crate::uses::{Use, UseQuestion, uses};
 use pr_value::Symbol;
-use rule_syntax::{ImplIn, Right};
+use rule_ast::{ImplIn, Right};
 
 // An enforcer on a left side.
 #[derive(Drop)]

@@ -1,7 +1,7 @@
 // Conditions on where the cost is assigned and read, and on the form of the costs of I-rules.
 ghost use Rattle.std.specs.Prelude.{◌≡◌, ◌||◌, map, option_map, IfOk};
 ghost use Rattle.std.specs.Option.{option_copied};
-ghost use Rattle.rule_syntax.specs.Seen.{seen_expr, seen_irule, seen_stmt};
+ghost use Rattle.rule_ast.specs.Seen.{seen_expr, seen_irule, seen_stmt};
 ghost use Rattle.rule_types.specs.LaterConditions as spec;
 ghost use Rattle.rule_types.specs.LaterConditions.{assigns_cost, holds_of, is_cost_read};
 ghost use Rattle.rule_types.specs.SeenDeclarations.{seen_declaration};
@@ -12,7 +12,7 @@ use crate::folds::Folds;
 use crate::roles::is_null;
 use crate::uses::{Use, UseQuestion, any_use, any_use_in_stmts, uses};
 use pr_value::{Memory, Symbol};
-use rule_syntax::{Expr, IRule, ImplIn, Stmt, cost_given, is_cost_form, names_of, reads_cost_of};
+use rule_ast::{Expr, IRule, ImplIn, Stmt, cost_given, is_cost_form, names_of, reads_cost_of};
 use std::alloc::Global;
 
 // The expression that gives the rule's cost.

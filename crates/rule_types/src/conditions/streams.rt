@@ -1,7 +1,7 @@
 // Conditions on the streams of a rule.
 ghost use Rattle.std.specs.Prelude.{◌≡◌, ◌==◌, map, not, IfOk};
 ghost use Rattle.std.specs.List.{list_all, zip};
-ghost use Rattle.rule_syntax.specs.Seen.{seen_left};
+ghost use Rattle.rule_ast.specs.Seen.{seen_left};
 ghost use Rattle.rule_types.specs.Conditions as spec;
 ghost use Rattle.rule_types.specs.Conditions.{are_numbers_distinct, same_numbers};
 ghost use Rattle.rule_types.specs.SeenDeclarations.{seen_declaration};
@@ -10,7 +10,7 @@ ghost use Rattle.rule_types.specs.Uses as uses;
 use crate::declaration::Declaration;
 use crate::streams::streams;
 use pr_value::Memory;
-use rule_syntax::{ImplIn, Left};
+use rule_ast::{ImplIn, Left};
 use std::alloc::Global;
 use std::collections::BTreeSet;
 

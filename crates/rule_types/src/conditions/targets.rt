@@ -1,7 +1,7 @@
 // Conditions on which descriptors statements change.
 ghost use Rattle.std.specs.Prelude.{◌≡◌};
 ghost use Rattle.pr_value.specs.SymbolSets.{contains};
-ghost use Rattle.rule_syntax.specs.Descs.{names_of};
+ghost use Rattle.rule_ast.specs.Descs.{names_of};
 ghost use Rattle.rule_types.specs.LaterConditions as spec;
 ghost use Rattle.rule_types.specs.LaterConditions.{changes_another, changes_input, has_desc, is_copy};
 ghost use Rattle.rule_types.specs.SeenDeclarations.{seen_declaration};
@@ -11,7 +11,7 @@ use crate::folds::Folds;
 use crate::sides::{RightQuestion, any_right};
 use crate::uses::{Use, UseQuestion, any_use_in_stmts, uses};
 use pr_value::Symbol;
-use rule_syntax::ImplIn;
+use rule_ast::ImplIn;
 
 /// Whether the descriptor is that of one of these inputs.
 pub fn is_input(inputs: &[ImplIn], desc: &Symbol) -> bool

@@ -1,7 +1,7 @@
 ghost use Rattle.std.specs.Prelude.{◌≡◌, ◌||◌, not, IfOk};
 ghost use Rattle.pr_value.specs.Repeats.{are_distinct};
 ghost use Rattle.pr_value.specs.SymbolSets.{contains, set_of};
-ghost use Rattle.rule_syntax.specs.SeenRules.{seen_rules};
+ghost use Rattle.rule_ast.specs.SeenRules.{seen_rules};
 ghost use Rattle.rule_types.specs.Conditions as spec;
 ghost use Rattle.rule_types.specs.Conditions.{earlier_names, is_taken, scope_names};
 ghost use Rattle.rule_types.specs.Declarations.{declared_name};
@@ -14,7 +14,7 @@ use crate::folds::{Folds, is_fold};
 use crate::scope_names::scope_names;
 use crate::uses::{Use, UseQuestion, uses};
 use pr_value::{Memory, SymSet, Symbol, are_distinct, copy_symbols};
-use rule_syntax::{Rules, is_builtin};
+use rule_ast::{Rules, is_builtin};
 use std::alloc::Global;
 
 fn has_builtin_name(d: &Declaration) -> bool

@@ -2,8 +2,8 @@
 ghost use Rattle.std.specs.Prelude.{◌≡◌, ◌||◌, ◌&&◌, not, map, IfOk};
 ghost use Rattle.std.specs.List.{list_any};
 ghost use Rattle.pr_value.specs.SymbolSets.{contains};
-ghost use Rattle.rule_syntax.specs.Seen.{seen_helper, seen_irule, seen_trule};
-ghost use Rattle.rule_syntax.specs.SeenRules.{seen_rules};
+ghost use Rattle.rule_ast.specs.Seen.{seen_helper, seen_irule, seen_trule};
+ghost use Rattle.rule_ast.specs.SeenRules.{seen_rules};
 ghost use Rattle.rule_types.specs.Conditions as spec;
 ghost use Rattle.rule_types.specs.Conditions.{has_number, is_unknown_function, is_unknown_left, is_unknown_right, is_unknown_use, property_names};
 ghost use Rattle.rule_types.specs.Declarations.{param_names};
@@ -20,7 +20,7 @@ use crate::sides::{LeftQuestion, RightQuestion, any_left, any_right};
 use crate::streams::streams;
 use crate::uses::{Use, UseQuestion, uses};
 use pr_value::{Memory, Property, Symbol};
-use rule_syntax::{AlgName, Helper, IRule, ImplIn, ImplSide, Rules, TRule, is_builtin};
+use rule_ast::{AlgName, Helper, IRule, ImplIn, ImplSide, Rules, TRule, is_builtin};
 use std::alloc::Global;
 
 // A use of what is not there.

@@ -2,9 +2,9 @@
 ghost use Rattle.std.specs.Prelude.{◌≡◌, ◌&&◌, ◌==◌, map, length};
 ghost use Rattle.std.specs.List.{list_any};
 ghost use Rattle.std.specs.Str.{bytes_eq};
-ghost use Rattle.rule_syntax.specs.Seen.{seen_helper, seen_irule, seen_operator, seen_trule};
-ghost use Rattle.rule_syntax.specs.SeenRules.{seen_rules};
-ghost use Rattle.rule_syntax.specs.Typing.{builtins, helper_signature};
+ghost use Rattle.rule_ast.specs.Seen.{seen_helper, seen_irule, seen_operator, seen_trule};
+ghost use Rattle.rule_ast.specs.SeenRules.{seen_rules};
+ghost use Rattle.rule_ast.specs.Typing.{builtins, helper_signature};
 ghost use Rattle.rule_types.specs.Conditions as spec;
 ghost use Rattle.rule_types.specs.Conditions.{has_signature, wrong_call, wrong_left, wrong_right};
 ghost use Rattle.rule_types.specs.SeenDeclarations.{seen_declaration};
@@ -16,7 +16,7 @@ use crate::scopes::helpers_of;
 use crate::sides::{LeftQuestion, RightQuestion, any_left, any_right};
 use crate::uses::{Use, UseQuestion, uses};
 use pr_value::Symbol;
-use rule_syntax::{AlgName, Algorithm, Helper, IRule, Operator, Rules, TRule, is_builtin};
+use rule_ast::{AlgName, Algorithm, Helper, IRule, Operator, Rules, TRule, is_builtin};
 
 fn is_arity(n: u64) -> bool
     ensures { result ≡ spec.is_arity n }

@@ -1,8 +1,8 @@
 ghost use Rattle.std.specs.Prelude.{◌≡◌, map, IfOk};
 ghost use Rattle.std.specs.List.{list_all};
-ghost use Rattle.rule_syntax.specs.Seen.{seen_body, seen_expr, seen_helper, seen_stmt};
-ghost use Rattle.rule_syntax.specs.SeenRules.{seen_rules};
-ghost use Rattle.rule_syntax.specs.Typing.{is_type, is_typed_stmt, signatures_of, type_of};
+ghost use Rattle.rule_ast.specs.Seen.{seen_body, seen_expr, seen_helper, seen_stmt};
+ghost use Rattle.rule_ast.specs.SeenRules.{seen_rules};
+ghost use Rattle.rule_ast.specs.Typing.{is_type, is_typed_stmt, signatures_of, type_of};
 ghost use Rattle.rule_types.specs.Conditions as spec;
 ghost use Rattle.rule_types.specs.Contexts.{seen_context};
 ghost use Rattle.rule_types.specs.SeenDeclarations.{seen_declaration};
@@ -13,7 +13,7 @@ use crate::scopes::{descs_of, helpers_of, params_of};
 use crate::statements::are_typed_stmts;
 use crate::typing::type_of;
 use pr_value::{Kind, Memory};
-use rule_syntax::{Body, Expr, Rules, Stmt, is_type, type_of_kind};
+use rule_ast::{Body, Expr, Rules, Stmt, is_type, type_of_kind};
 use std::alloc::Global;
 
 // Whether the expression is of that type.

@@ -1,8 +1,8 @@
 use Rattle.std.proofs.Common.{ap, sym, ◌∙◌, ◌≡◌, subst, true}
 use Rattle.pr_value.specs.Values.{has_kind}
 use Rattle.pr_value.specs.declared.value.Value.{Value}
-use Rattle.rule_syntax.specs.Seen.{seen_expr}
-use Rattle.rule_syntax.specs.Syntax.{Rules}
+use Rattle.rule_ast.specs.Seen.{seen_expr}
+use Rattle.rule_ast.specs.Syntax.{Rules}
 use Rattle.action_eval.specs.Environments.{scope_of}
 use Rattle.action_eval.specs.Meaning.{functions, value_by}
 use Rattle.action_eval.specs.SeenEnv.{seen_env}

@@ -1,6 +1,6 @@
 use Rattle.std.proofs.Common.{sym, ap, ◌∙◌, add-one}
 use Rattle.std.specs.Str.{bytes_eq}
-use Rattle.rule_syntax.specs.declared.parts.Param.{Param}
+use Rattle.rule_ast.specs.declared.parts.Param.{Param}
 use Rattle.action_eval.specs.Builtins.{at}
 use Rattle.action_eval.proofs.FunctionLaws.{ok-value}
 use Rattle.action_eval.proofs.ReadLaws.{bound-here, bound-next}

@@ -2,7 +2,7 @@ use Rattle.std.proofs.Common.{◌≡◌, suc, ◌-◌, ◌<◌, length, drop, re
 use Rattle.std.specs.List.{list_any}
 use Rattle.std.specs.Str.{bytes_eq}
 use Rattle.std.proofs.lemmas.Option.{slice_get_read}
-use Rattle.rule_syntax.specs.declared.parts.Helper.{Helper}
+use Rattle.rule_ast.specs.declared.parts.Helper.{Helper}
 use Rattle.action_eval.proofs.TypeLaws.{some-same}
 use Rattle.action_eval.proofs.helpers.place_of.Goals as goal
 

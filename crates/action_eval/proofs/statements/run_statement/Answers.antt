@@ -1,7 +1,7 @@
 use Rattle.std.proofs.Common.{◌≡◌, [], ◌∷◌, true, sym, ap, ◌∙◌, subst}
 use Rattle.descriptor_types.specs.Descriptors.{with_value}
-use Rattle.rule_syntax.specs.Seen.{seen_stmt, seen_expr}
-use Rattle.rule_syntax.specs.declared.expr.Stmt.{Stmt}
+use Rattle.rule_ast.specs.Seen.{seen_stmt, seen_expr}
+use Rattle.rule_ast.specs.declared.expr.Stmt.{Stmt}
 use Rattle.action_eval.specs.Environments.{Env, IsSound, are_typed_here, context_of}
 use Rattle.action_eval.specs.Meaning.{desc_in}
 use Rattle.action_eval.specs.SeenEnv.{seen_env}

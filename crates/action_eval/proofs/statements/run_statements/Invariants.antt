@@ -1,5 +1,5 @@
 use Rattle.std.proofs.Common.{◌≡◌, map, take}
-use Rattle.rule_syntax.specs.Seen.{seen_stmt}
+use Rattle.rule_ast.specs.Seen.{seen_stmt}
 use Rattle.action_eval.specs.Environments.{IsSound, after, context_of}
 use Rattle.action_eval.specs.SeenEnv.{seen_env}
 use Rattle.action_eval.proofs.statements.run_statements.Given as goal

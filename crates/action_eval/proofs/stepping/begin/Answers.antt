@@ -1,4 +1,4 @@
-use Rattle.rule_syntax.specs.Seen.{seen_expr}
+use Rattle.rule_ast.specs.Seen.{seen_expr}
 use Rattle.action_eval.specs.Machine.{eval, turns}
 use Rattle.action_eval.specs.SeenMachine.{seen_machine, seen_within}
 use Rattle.action_eval.proofs.StepLaws.{on-ok, set-begun, list-begun, call-begun, fold-begun, number-done, truth-done, symbol-done, pushed-two}

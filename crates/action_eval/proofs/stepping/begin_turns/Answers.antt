@@ -2,7 +2,7 @@ use Rattle.std.proofs.Common.{◌+◌, List, length, reverse, ap, ◌∙◌, ari
 use Rattle.pr_value.specs.Symbols.{Symbol}
 use Rattle.pr_value.specs.Values.{members_in}
 use Rattle.pr_value.specs.declared.value.Value.{Value}
-use Rattle.rule_syntax.specs.Seen.{seen_expr}
+use Rattle.rule_ast.specs.Seen.{seen_expr}
 use Rattle.action_eval.specs.Builtins.{at}
 use Rattle.action_eval.specs.SeenMachine.{seen_machine}
 use Rattle.action_eval.proofs.StepLaws.{on-ok, turns-begun, turns-pushed}

@@ -1,6 +1,6 @@
 use Rattle.std.proofs.Common.{List, ap, ◌∙◌}
 use Rattle.pr_value.specs.declared.value.Value.{Value}
-use Rattle.rule_syntax.specs.Typing.{builtin_of}
+use Rattle.rule_ast.specs.Typing.{builtin_of}
 use Rattle.action_eval.specs.Builtins.{builtin_value}
 use Rattle.action_eval.specs.SeenMachine.{seen_machine, seen_within}
 use Rattle.action_eval.proofs.StepLaws.{on-ok, builtin-called, helper-called}

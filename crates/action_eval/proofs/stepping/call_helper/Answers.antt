@@ -1,5 +1,5 @@
 use Rattle.std.proofs.Common.{List, map, reverse, take, length, ap, sym, ◌∙◌, arith}
-use Rattle.rule_syntax.specs.declared.parts.Helper.{Helper}
+use Rattle.rule_ast.specs.declared.parts.Helper.{Helper}
 use Rattle.action_eval.specs.Machine.{helpers_in}
 use Rattle.action_eval.specs.SeenMachine.{seen_frame, seen_machine, seen_within}
 use Rattle.action_eval.specs.declared.machine.Frame.{Frame}

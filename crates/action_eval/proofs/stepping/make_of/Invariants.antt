@@ -1,5 +1,5 @@
 use Rattle.std.proofs.Common.{◌≡◌, ◌++◌, map, length}
-use Rattle.rule_syntax.specs.Seen.{seen_expr, exprs_of}
+use Rattle.rule_ast.specs.Seen.{seen_expr, exprs_of}
 use Rattle.action_eval.specs.Machine.{State, evals}
 use Rattle.action_eval.specs.SeenMachine.{seen_machine}
 use Rattle.action_eval.proofs.stepping.make_of.Given as goal

@@ -1,4 +1,4 @@
-use Rattle.rule_syntax.specs.Seen.{seen_expr}
+use Rattle.rule_ast.specs.Seen.{seen_expr}
 use Rattle.action_eval.specs.SeenMachine.{seen_machine}
 use Rattle.action_eval.proofs.StepLaws.{turns-left}
 use Rattle.action_eval.proofs.stepping.push_turns.Goals as goal

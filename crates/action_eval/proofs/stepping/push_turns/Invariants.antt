@@ -1,5 +1,5 @@
 use Rattle.std.proofs.Common.{◌≡◌, ◌++◌, length}
-use Rattle.rule_syntax.specs.Seen.{seen_expr}
+use Rattle.rule_ast.specs.Seen.{seen_expr}
 use Rattle.action_eval.specs.Machine.{State, turns_at}
 use Rattle.action_eval.specs.SeenMachine.{seen_machine}
 use Rattle.action_eval.proofs.stepping.push_turns.Given as goal

@@ -1,5 +1,5 @@
 use Rattle.std.proofs.Common.{subst, sym}
-use Rattle.rule_syntax.specs.Seen.{seen_expr}
+use Rattle.rule_ast.specs.Seen.{seen_expr}
 use Rattle.action_eval.specs.Machine.{StepsFrom}
 use Rattle.action_eval.specs.SeenMachine.{seen_machine, seen_task, seen_within}
 use Rattle.action_eval.specs.declared.machine.Task.{Task}

@@ -1,5 +1,5 @@
 use Rattle.std.proofs.Common.{arith}
-use Rattle.rule_syntax.specs.Seen.{seen_irule}
+use Rattle.rule_ast.specs.Seen.{seen_irule}
 use Rattle.enforcer_find.specs.Enforcers.{leads_to_algorithm}
 use Rattle.enforcer_find.proofs.PlaceLaws.{places-pushed}
 use Rattle.enforcer_find.proofs.enforcers.algorithms.Goals as goal

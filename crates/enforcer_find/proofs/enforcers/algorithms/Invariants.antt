@@ -1,5 +1,5 @@
 use Rattle.std.proofs.Common.{◌≡◌, map, take}
-use Rattle.rule_syntax.specs.Seen.{seen_irule}
+use Rattle.rule_ast.specs.Seen.{seen_irule}
 use Rattle.enforcer_find.specs.Enforcers.{leads_to_algorithm, places}
 use Rattle.enforcer_find.proofs.enforcers.algorithms.Given as goal
 

@@ -1,6 +1,6 @@
 use Rattle.std.proofs.Common.{arith}
-use Rattle.rule_syntax.specs.Seen.{seen_irule}
-use Rattle.rule_syntax.specs.Roles.{leads_to_null}
+use Rattle.rule_ast.specs.Seen.{seen_irule}
+use Rattle.rule_ast.specs.Roles.{leads_to_null}
 use Rattle.enforcer_find.proofs.PlaceLaws.{places-pushed}
 use Rattle.enforcer_find.proofs.enforcers.null_rules.Goals as goal
 

@@ -1,6 +1,6 @@
 use Rattle.std.proofs.Common.{◌≡◌, map, take}
-use Rattle.rule_syntax.specs.Seen.{seen_irule}
-use Rattle.rule_syntax.specs.Roles.{leads_to_null}
+use Rattle.rule_ast.specs.Seen.{seen_irule}
+use Rattle.rule_ast.specs.Roles.{leads_to_null}
 use Rattle.enforcer_find.specs.Enforcers.{places}
 use Rattle.enforcer_find.proofs.enforcers.null_rules.Given as goal
 

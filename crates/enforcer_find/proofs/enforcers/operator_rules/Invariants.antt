@@ -1,5 +1,5 @@
 use Rattle.std.proofs.Common.{◌≡◌, map, take}
-use Rattle.rule_syntax.specs.Seen.{seen_irule, seen_operator}
+use Rattle.rule_ast.specs.Seen.{seen_irule, seen_operator}
 use Rattle.enforcer_find.specs.Enforcers.{rules_of}
 use Rattle.enforcer_find.proofs.enforcers.operator_rules.Given as goal
 

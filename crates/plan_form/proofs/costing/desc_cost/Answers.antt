@@ -1,6 +1,6 @@
 use Rattle.std.proofs.Common.{ap, sym, ◌∙◌, arith}
 use Rattle.pr_value.specs.Values.{number_in}
-use Rattle.rule_syntax.specs.CostForms.{cost_name}
+use Rattle.rule_ast.specs.CostForms.{cost_name}
 use Rattle.plan_form.proofs.CostLaws.{value_of-none, value_of-past, value_of-placed}
 use Rattle.plan_form.proofs.costing.desc_cost.Goals as goal
 

@@ -1,7 +1,7 @@
 use Rattle.std.proofs.Common.{sym, ◌∙◌, arith}
 use Rattle.pr_value.specs.declared.value.Value.TheVariants as value
 use Rattle.descriptor_types.proofs.PlaceLaws.{with_value-at, with_value-none}
-use Rattle.rule_syntax.specs.CostForms.{cost_name}
+use Rattle.rule_ast.specs.CostForms.{cost_name}
 use Rattle.plan_form.proofs.CostLaws.{with_value-past}
 use Rattle.plan_form.proofs.costing.set_cost.Goals as goal
 

@@ -1,5 +1,5 @@
 use Rattle.action_eval.specs.SeenForms.{seen_step}
-use Rattle.rule_syntax.specs.SeenRules.{seen_rules}
+use Rattle.rule_ast.specs.SeenRules.{seen_rules}
 use Rattle.plan_form.proofs.SeenLaws.{capped-costs, costs-found, seen-plan_by}
 use Rattle.plan_form.proofs.implementing.plan_by.Goals as goal
 

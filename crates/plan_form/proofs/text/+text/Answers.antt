@@ -1,6 +1,6 @@
 use Rattle.std.proofs.Common.{◌≡◌, ◌+◌, ◌∷◌, [], ◌++◌, take, map, ap, sym, ◌∙◌, arith}
 use Rattle.std.proofs.lemmas.List.{map-append, take_more}
-use Rattle.rule_syntax.specs.SeenRules.{seen_rules}
+use Rattle.rule_ast.specs.SeenRules.{seen_rules}
 use Rattle.plan_form.specs.declared.plan.Plan as rust
 use Rattle.std.specs.Option.{option_copied}
 use Rattle.plan_form.specs.Plans.{seen_plan}

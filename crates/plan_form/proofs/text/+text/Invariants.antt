@@ -1,6 +1,6 @@
 use Rattle.std.proofs.Common.{◌≡◌, ◌++◌, map, take}
 use Rattle.pr_value.specs.Trees.{trees_of}
-use Rattle.rule_syntax.specs.SeenRules.{seen_rules}
+use Rattle.rule_ast.specs.SeenRules.{seen_rules}
 use Rattle.plan_form.specs.Plans.{seen_plan}
 use Rattle.plan_form.specs.PlanText.{inputs_text}
 use Rattle.plan_form.proofs.text.+text.Given as goal

@@ -12,8 +12,8 @@ use Rattle.plan_form.specs.declared.plan.Plan as plan
 use Rattle.pr_value.specs.Trees.{Tree, height, highest, inputs, trees_of}
 use Rattle.query_tree.specs.Trees.{AreTrees}
 use Rattle.query_tree.specs.Views.{physical}
-use Rattle.rule_syntax.specs.Seen.{seen_irule}
-use Rattle.rule_syntax.specs.SeenRules.{seen_rules}
+use Rattle.rule_ast.specs.Seen.{seen_irule}
+use Rattle.rule_ast.specs.SeenRules.{seen_rules}
 use Rattle.plan_search.proofs.HeightLaws.{asked-lower}
 use Rattle.plan_search.proofs.LeastLaws.{all-IsAnswer, lesser-IsBestBelow}
 use Rattle.plan_search.proofs.SearchLaws.{all-capped, as_many-over, best-more, by-cheapest, by-none, found-IsAsked, height-at, tree-at}

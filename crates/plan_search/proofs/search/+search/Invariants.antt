@@ -4,7 +4,7 @@ use Rattle.plan_form.specs.Plans.{seen_plan}
 use Rattle.plan_search.specs.Found.{AreFound}
 use Rattle.plan_search.specs.Search.{AllBest, IsBestBelow}
 use Rattle.pr_value.specs.Trees.{height, highest, trees_of}
-use Rattle.rule_syntax.specs.SeenRules.{seen_rules}
+use Rattle.rule_ast.specs.SeenRules.{seen_rules}
 use Rattle.plan_search.proofs.search.+search.Given as goal
 
 -- each tree that is asked for is lower than the one that asks

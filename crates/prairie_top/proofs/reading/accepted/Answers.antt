@@ -1,7 +1,7 @@
 use Rattle.std.proofs.Common.{◌≡◌, [], None, ap, sym, ◌∙◌, subst}
 use Rattle.std.proofs.lemmas.Bool.{false≢true}
-use Rattle.rule_syntax.specs.SeenRules.{seen_rules}
-use Rattle.rule_syntax.specs.declared.rule_set.Rules.{Rules}
+use Rattle.rule_ast.specs.SeenRules.{seen_rules}
+use Rattle.rule_ast.specs.declared.rule_set.Rules.{Rules}
 use Rattle.rule_types.specs.Conditions.{refused_by}
 use Rattle.prairie_top.proofs.reading.accepted.Goals as goal
 

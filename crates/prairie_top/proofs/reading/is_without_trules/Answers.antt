@@ -1,4 +1,4 @@
-use Rattle.rule_syntax.specs.Seen.{seen_trule}
+use Rattle.rule_ast.specs.Seen.{seen_trule}
 use Rattle.prairie_top.proofs.ReadingLaws.{map-is_empty}
 use Rattle.prairie_top.proofs.reading.is_without_trules.Goals as goal
 

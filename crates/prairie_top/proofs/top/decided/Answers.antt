@@ -4,7 +4,7 @@ use Rattle.plan_form.specs.Plans.{IsAnswer, seen_plan}
 use Rattle.plan_form.specs.PlanText.{plan_text}
 use Rattle.plan_form.specs.declared.plan.Plan as rust
 use Rattle.prairie_top.specs.Messages.{no_plan_text}
-use Rattle.rule_syntax.specs.SeenRules.{seen_rules}
+use Rattle.rule_ast.specs.SeenRules.{seen_rules}
 use Rattle.prairie_top.proofs.top.decided.Goals as goal
 
 pub returns-in_ok-plan_text-in-Some : goal.returns-in_ok-plan_text-in-Some

@@ -1,4 +1,4 @@
-use Rattle.rule_syntax.specs.SeenRules.{seen_rules}
+use Rattle.rule_ast.specs.SeenRules.{seen_rules}
 use Rattle.rule_types.specs.declared.accepted.Accepted.{Accepted}
 use Rattle.prairie_top.specs.Outcome.{RulesComes, PlanComes, rules_source}
 use Rattle.prairie_top.specs.Reading.{Reads, rules_grammar}

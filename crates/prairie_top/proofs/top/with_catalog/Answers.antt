@@ -1,8 +1,8 @@
 use Rattle.std.proofs.Common.{subst}
 use Rattle.descriptor_types.specs.Labels.{Label, seen_tree}
 use Rattle.pr_value.specs.Trees.{Tree}
-use Rattle.rule_syntax.specs.Seen.{seen_query}
-use Rattle.rule_syntax.specs.SeenRules.{seen_rules}
+use Rattle.rule_ast.specs.Seen.{seen_query}
+use Rattle.rule_ast.specs.SeenRules.{seen_rules}
 use Rattle.prairie_top.specs.Outcome.{CatalogComes, Decides, query_source}
 use Rattle.prairie_top.specs.Reading.{Reads, query_grammar}
 use Rattle.prairie_top.specs.Run.{Fetches}

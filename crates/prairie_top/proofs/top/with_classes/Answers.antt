@@ -1,4 +1,4 @@
-use Rattle.rule_syntax.specs.SeenRules.{seen_rules}
+use Rattle.rule_ast.specs.SeenRules.{seen_rules}
 use Rattle.prairie_top.specs.Outcome.{CatalogComes, RulesComes, catalog_source}
 use Rattle.prairie_top.specs.Reading.{ReadsCatalog}
 use Rattle.prairie_top.specs.Run.{Fetches}

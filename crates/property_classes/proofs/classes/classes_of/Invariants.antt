@@ -1,6 +1,6 @@
 use Rattle.std.proofs.Common.{◌≡◌, map, take}
-use Rattle.rule_syntax.specs.Roles.{class_of}
-use Rattle.rule_syntax.specs.SeenRules.{seen_rules}
+use Rattle.rule_ast.specs.Roles.{class_of}
+use Rattle.rule_ast.specs.SeenRules.{seen_rules}
 use Rattle.property_classes.proofs.classes.classes_of.Given as goal
 
 -- those of the properties so far

@@ -1,5 +1,5 @@
 use Rattle.std.proofs.Common.{◌≡◌, ◌++◌, take}
-use Rattle.rule_syntax.specs.Descs.{names_of}
+use Rattle.rule_ast.specs.Descs.{names_of}
 use Rattle.property_classes.proofs.reading.push_inputs.Given as goal
 
 -- those of the inputs so far

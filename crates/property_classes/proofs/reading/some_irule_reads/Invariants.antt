@@ -1,7 +1,7 @@
 use Rattle.std.proofs.Common.{◌≡◌, drop, map}
 use Rattle.std.specs.List.{list_any}
-use Rattle.rule_syntax.specs.Roles.{irule_reads}
-use Rattle.rule_syntax.specs.Seen.{seen_irule}
+use Rattle.rule_ast.specs.Roles.{irule_reads}
+use Rattle.rule_ast.specs.Seen.{seen_irule}
 use Rattle.property_classes.proofs.reading.some_irule_reads.Given as goal
 
 -- the rest decides

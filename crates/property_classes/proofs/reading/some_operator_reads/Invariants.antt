@@ -1,7 +1,7 @@
 use Rattle.std.proofs.Common.{◌≡◌, drop, map}
 use Rattle.std.specs.List.{list_any}
-use Rattle.rule_syntax.specs.Roles.{operator_reads}
-use Rattle.rule_syntax.specs.Seen.{seen_operator}
+use Rattle.rule_ast.specs.Roles.{operator_reads}
+use Rattle.rule_ast.specs.Seen.{seen_operator}
 use Rattle.property_classes.proofs.reading.some_operator_reads.Given as goal
 
 -- the rest decides

@@ -1,7 +1,7 @@
 use Rattle.std.proofs.Common.{◌≡◌, drop, map}
 use Rattle.std.specs.List.{list_any}
-use Rattle.rule_syntax.specs.Roles.{any_read_in, of_these}
-use Rattle.rule_syntax.specs.Seen.{seen_stmt}
+use Rattle.rule_ast.specs.Roles.{any_read_in, of_these}
+use Rattle.rule_ast.specs.Seen.{seen_stmt}
 use Rattle.property_classes.proofs.reading.some_read_in.Given as goal
 
 -- the rest decides

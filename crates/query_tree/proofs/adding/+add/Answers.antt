@@ -5,7 +5,7 @@ use Rattle.descriptor_types.specs.Labels.{seen_tree}
 use Rattle.descriptor_types.specs.declared.tree.Tree.{the_lemmas}
 use Rattle.pr_value.specs.Trees.{nil, trees_of}
 use Rattle.query_tree.specs.Dressed.{dressed}
-use Rattle.rule_syntax.specs.SeenRules.{seen_rules}
+use Rattle.rule_ast.specs.SeenRules.{seen_rules}
 use Rattle.query_tree.proofs.AddLaws.{file_stands, inputs-long, kept_itself, kept_trans, node_IsTree, node_over_one, node_stands, stand_none, stand_within, stand-all, stand-more, trees-at}
 use Rattle.query_tree.proofs.EnforcerLaws.{seen_irules-bare}
 use Rattle.query_tree.proofs.adding.+add.Goals as goal

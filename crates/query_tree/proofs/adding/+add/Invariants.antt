@@ -5,7 +5,7 @@ use Rattle.descriptor_types.specs.Labels.{seen_tree}
 use Rattle.pr_value.specs.Trees.{trees_of}
 use Rattle.query_tree.specs.Dressed.{dressed}
 use Rattle.query_tree.specs.Trees.{AreTrees}
-use Rattle.rule_syntax.specs.SeenRules.{seen_rules}
+use Rattle.rule_ast.specs.SeenRules.{seen_rules}
 use Rattle.query_tree.proofs.adding.+add.Given as goal
 
 -- those so far stand for their trees, and the rest are trees of the rules

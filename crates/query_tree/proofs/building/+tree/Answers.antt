@@ -6,12 +6,12 @@ use Rattle.query_tree.specs.Faultless.{IsFaultless, IsRight}
 use Rattle.query_tree.specs.Query.{query_tree}
 use Rattle.query_tree.proofs.BuildLaws.{built-more, node-right, query_tree-node, tree-same}
 use Rattle.query_tree.proofs.FaultLaws.{faultless-at}
-use Rattle.rule_syntax.proofs.SeenLaws.{seen_node}
-use Rattle.rule_syntax.specs.Seen.{seen_query}
-use Rattle.rule_syntax.specs.SeenRules.{seen_rules}
-use Rattle.rule_syntax.specs.Syntax.{QueryLabel}
-use Rattle.rule_syntax.specs.declared.query.QueryText.{QueryText, the_lemmas}
-use Rattle.rule_syntax.specs.declared.query.Setting.{Setting}
+use Rattle.rule_ast.proofs.SeenLaws.{seen_node}
+use Rattle.rule_ast.specs.Seen.{seen_query}
+use Rattle.rule_ast.specs.SeenRules.{seen_rules}
+use Rattle.rule_ast.specs.Syntax.{QueryLabel}
+use Rattle.rule_ast.specs.declared.query.QueryText.{QueryText, the_lemmas}
+use Rattle.rule_ast.specs.declared.query.Setting.{Setting}
 use Rattle.query_tree.proofs.building.+tree.Goals as goal
 
 pub all_trees-tree_of-requires : goal.all_trees-tree_of-requires

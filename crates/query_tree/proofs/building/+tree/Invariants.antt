@@ -3,8 +3,8 @@ use Rattle.descriptor_types.specs.Labels.{seen_tree}
 use Rattle.pr_value.specs.Trees.{trees_of}
 use Rattle.query_tree.specs.Query.{query_tree}
 use Rattle.query_tree.specs.Trees.{AreTrees}
-use Rattle.rule_syntax.specs.Seen.{seen_query}
-use Rattle.rule_syntax.specs.SeenRules.{seen_rules}
+use Rattle.rule_ast.specs.Seen.{seen_query}
+use Rattle.rule_ast.specs.SeenRules.{seen_rules}
 use Rattle.query_tree.proofs.building.+tree.Given as goal
 
 -- the trees so far

@@ -2,9 +2,9 @@ use Rattle.std.proofs.Common.{◌≡◌, None, ap, sym, ◌∙◌}
 use Rattle.query_tree.specs.Refusals.{refusal_of}
 use Rattle.query_tree.proofs.BuildLaws.{told-some}
 use Rattle.query_tree.proofs.FaultLaws.{faultless}
-use Rattle.rule_syntax.specs.Seen.{seen_query}
-use Rattle.rule_syntax.specs.SeenRules.{seen_rules}
-use Rattle.rule_syntax.specs.declared.rule_set.Rules.{Rules}
+use Rattle.rule_ast.specs.Seen.{seen_query}
+use Rattle.rule_ast.specs.SeenRules.{seen_rules}
+use Rattle.rule_ast.specs.declared.rule_set.Rules.{Rules}
 use Rattle.query_tree.proofs.building.build.Goals as goal
 
 pub returns-in-Some-clause-refused : goal.returns-in-Some-clause-refused

@@ -10,7 +10,7 @@ use Rattle.query_tree.specs.Refusals.{is_wrong_file}
 use Rattle.query_tree.specs.Trees.{IsDesc, IsTree}
 use Rattle.query_tree.proofs.BuildLaws.{file-tree, named_nothing}
 use Rattle.query_tree.proofs.SoundLaws.{file-sound}
-use Rattle.rule_syntax.specs.SeenRules.{seen_rules}
+use Rattle.rule_ast.specs.SeenRules.{seen_rules}
 use Rattle.rule_types.proofs.AcceptedCosts.{accepted-one_cost}
 use Rattle.query_tree.proofs.building.file_tree.Goals as goal
 

@@ -10,9 +10,9 @@ use Rattle.query_tree.specs.Trees.{IsFree}
 use Rattle.query_tree.specs.Views.{view_in}
 use Rattle.query_tree.proofs.BuildLaws.{initial-fits, initial-free, typed-init}
 use Rattle.query_tree.proofs.SoundLaws.{plain-sound, settings-sound}
-use Rattle.rule_syntax.specs.Seen.{seen_operator, seen_stmt}
-use Rattle.rule_syntax.specs.SeenRules.{seen_rules}
-use Rattle.rule_syntax.specs.declared.expr.Stmt as rust
+use Rattle.rule_ast.specs.Seen.{seen_operator, seen_stmt}
+use Rattle.rule_ast.specs.SeenRules.{seen_rules}
+use Rattle.rule_ast.specs.declared.expr.Stmt as rust
 use Rattle.rule_types.proofs.AcceptedCosts.{accepted-one_cost}
 use Rattle.query_tree.proofs.building.initial_desc.Goals as goal
 

@@ -8,8 +8,8 @@ use Rattle.query_tree.specs.Scopes.{Scope, env_over}
 use Rattle.query_tree.specs.Views.{view_in}
 use Rattle.query_tree.proofs.BuildLaws.{distinct-descs, fits-scope, zip-scope}
 use Rattle.query_tree.proofs.SoundLaws.{plain-sound, settings-sound}
-use Rattle.rule_syntax.specs.Seen.{seen_operator}
-use Rattle.rule_syntax.specs.SeenRules.{seen_rules}
+use Rattle.rule_ast.specs.Seen.{seen_operator}
+use Rattle.rule_ast.specs.SeenRules.{seen_rules}
 use Rattle.rule_types.proofs.AcceptedCosts.{accepted-one_cost}
 use Rattle.query_tree.proofs.building.initial_env.Goals as goal
 

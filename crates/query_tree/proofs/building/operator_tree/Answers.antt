@@ -13,9 +13,9 @@ use Rattle.query_tree.specs.Steps.{operator_at}
 use Rattle.query_tree.specs.Trees.{IsDesc, IsTree}
 use Rattle.query_tree.specs.Views.{view_in}
 use Rattle.query_tree.proofs.BuildLaws.{Stands, found, operator-tree, stands-right, within-map}
-use Rattle.rule_syntax.specs.Seen.{seen_operator}
-use Rattle.rule_syntax.specs.SeenRules.{seen_rules}
-use Rattle.rule_syntax.specs.Syntax.{Operator}
+use Rattle.rule_ast.specs.Seen.{seen_operator}
+use Rattle.rule_ast.specs.SeenRules.{seen_rules}
+use Rattle.rule_ast.specs.Syntax.{Operator}
 use Rattle.query_tree.proofs.building.operator_tree.Goals as goal
 
 pub declared_at-operator-requires : goal.declared_at-operator-requires

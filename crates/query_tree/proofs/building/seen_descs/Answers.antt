@@ -5,7 +5,7 @@ use Rattle.property_classes.specs.Classes.{is_seen}
 use Rattle.query_tree.specs.Query.{with_settings}
 use Rattle.query_tree.specs.Views.{seen, view_in}
 use Rattle.query_tree.proofs.BuildLaws.{views-pushed}
-use Rattle.rule_syntax.specs.SeenRules.{seen_rules}
+use Rattle.rule_ast.specs.SeenRules.{seen_rules}
 use Rattle.query_tree.proofs.building.seen_descs.Goals as goal
 
 pub returns : goal.returns

@@ -1,6 +1,6 @@
 use Rattle.std.proofs.Common.{◌≡◌, drop}
 use Rattle.query_tree.specs.Refusals.{first_setting, is_wrong_setting}
-use Rattle.rule_syntax.specs.SeenRules.{seen_rules}
+use Rattle.rule_ast.specs.SeenRules.{seen_rules}
 use Rattle.query_tree.proofs.conditions.first_wrong.Given as goal
 
 -- the rest decides

@@ -1,6 +1,6 @@
 use Rattle.std.proofs.Common.{◌≡◌, drop, map}
 use Rattle.pr_value.specs.SymbolSets.{contains}
-use Rattle.rule_syntax.specs.Seen.{seen_operator}
+use Rattle.rule_ast.specs.Seen.{seen_operator}
 use Rattle.rule_types.specs.Conditions.{operator_names}
 use Rattle.query_tree.proofs.conditions.is_operator.Given as goal
 

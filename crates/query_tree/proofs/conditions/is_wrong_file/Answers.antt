@@ -5,7 +5,7 @@ use Rattle.catalog.specs.declared.catalog.FileEntry.{FileEntry}
 use Rattle.query_tree.specs.Query.{fields_in}
 use Rattle.query_tree.specs.Refusals.{is_wrong_file}
 use Rattle.query_tree.proofs.PartLaws.{none_wrong}
-use Rattle.rule_syntax.specs.SeenRules.{seen_rules}
+use Rattle.rule_ast.specs.SeenRules.{seen_rules}
 use Rattle.query_tree.proofs.conditions.is_wrong_file.Goals as goal
 
 pub returns-in-Free : goal.returns-in-Free

@@ -1,5 +1,5 @@
 use Rattle.std.proofs.Common.{◌≡◌, drop}
-use Rattle.rule_syntax.specs.Typing.{property_kind}
+use Rattle.rule_ast.specs.Typing.{property_kind}
 use Rattle.query_tree.proofs.conditions.property_kind.Given as goal
 
 -- the rest decides

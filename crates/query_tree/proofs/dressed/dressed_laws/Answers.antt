@@ -1,4 +1,4 @@
-use Rattle.rule_syntax.specs.SeenRules.{seen_rules}
+use Rattle.rule_ast.specs.SeenRules.{seen_rules}
 use Rattle.query_tree.proofs.AfterLaws.{seen_trules-bare, step-IsTree}
 use Rattle.query_tree.proofs.DressedLaws.{joined-dressed, joined-trees, joined-undressed, steps-dressed}
 use Rattle.query_tree.proofs.dressed.dressed_laws.Goals as goal

@@ -1,7 +1,7 @@
 use Rattle.std.proofs.Common.{refl, arith}
 use Rattle.std.proofs.lemmas.List.{length-map}
-use Rattle.rule_syntax.specs.Seen.{seen_operator}
-use Rattle.rule_syntax.specs.SeenRules.{seen_rules}
+use Rattle.rule_ast.specs.Seen.{seen_operator}
+use Rattle.rule_ast.specs.SeenRules.{seen_rules}
 use Rattle.query_tree.proofs.EnforcerLaws.{enforces-past, enforces-told}
 use Rattle.query_tree.proofs.dressing.enforces.Goals as goal
 

@@ -4,7 +4,7 @@ use Rattle.derivation.proofs.AlikeLaws.{alike_joined}
 use Rattle.derivation.proofs.CountLaws.{count_is}
 use Rattle.derivation.proofs.FixedLaws.{fixed_alike}
 use Rattle.derivation.proofs.JoinedLaws.{closed_is_all}
-use Rattle.rule_syntax.specs.SeenRules.{seen_rules}
+use Rattle.rule_ast.specs.SeenRules.{seen_rules}
 use Rattle.query_tree.proofs.ApartLaws.{seen_trules-rooted, step-apart}
 use Rattle.query_tree.specs.Equality.{is_counted, is_enforcing}
 use Rattle.query_tree.specs.Steps.{step}

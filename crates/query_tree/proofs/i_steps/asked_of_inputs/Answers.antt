@@ -2,9 +2,9 @@ use Rattle.std.proofs.Common.{ap, ◌∙◌}
 use Rattle.std.specs.List.{list_all}
 use Rattle.action_eval.specs.SeenEnv.{seen_env}
 use Rattle.descriptor_types.specs.Descriptors.{fits}
-use Rattle.rule_syntax.specs.Descs.{irule_descs, names_of}
-use Rattle.rule_syntax.specs.Seen.{seen_irule}
-use Rattle.rule_syntax.specs.SeenRules.{seen_rules}
+use Rattle.rule_ast.specs.Descs.{irule_descs, names_of}
+use Rattle.rule_ast.specs.Seen.{seen_irule}
+use Rattle.rule_ast.specs.SeenRules.{seen_rules}
 use Rattle.query_tree.proofs.AskedLaws.{asked-all, asked-fits, inputs-known}
 use Rattle.query_tree.proofs.i_steps.asked_of_inputs.Goals as goal
 

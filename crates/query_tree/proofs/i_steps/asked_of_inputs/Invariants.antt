@@ -2,7 +2,7 @@ use Rattle.std.proofs.Common.{◌≡◌, map, take}
 use Rattle.action_eval.specs.Meaning.{desc_in}
 use Rattle.action_eval.specs.SeenEnv.{seen_env}
 use Rattle.descriptor_types.specs.Descriptors.{only}
-use Rattle.rule_syntax.specs.SeenRules.{seen_rules}
+use Rattle.rule_ast.specs.SeenRules.{seen_rules}
 use Rattle.query_tree.specs.Views.{physical}
 use Rattle.query_tree.proofs.i_steps.asked_of_inputs.Given as goal
 

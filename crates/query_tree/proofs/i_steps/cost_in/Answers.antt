@@ -2,10 +2,10 @@ use Rattle.std.proofs.Common.{map, ap, ◌∙◌}
 use Rattle.action_eval.specs.Forms.{cost_in}
 use Rattle.action_eval.specs.SeenEnv.{seen_env}
 use Rattle.pr_value.specs.Repeats.{are_distinct}
-use Rattle.rule_syntax.specs.CostForms.{cost_name, reads_cost_of}
-use Rattle.rule_syntax.specs.Descs.{names_of}
-use Rattle.rule_syntax.specs.Seen.{seen_expr, seen_irule, seen_stmt}
-use Rattle.rule_syntax.specs.SeenRules.{seen_rules}
+use Rattle.rule_ast.specs.CostForms.{cost_name, reads_cost_of}
+use Rattle.rule_ast.specs.Descs.{names_of}
+use Rattle.rule_ast.specs.Seen.{seen_expr, seen_irule, seen_stmt}
+use Rattle.rule_ast.specs.SeenRules.{seen_rules}
 use Rattle.query_tree.proofs.AcceptedFacts.{irule_facts}
 use Rattle.query_tree.proofs.AskedLaws.{cost-given, cost-not_given, cost-there, cost-IsCostOf, inputs-distinct}
 use Rattle.query_tree.proofs.i_steps.cost_in.Goals as goal

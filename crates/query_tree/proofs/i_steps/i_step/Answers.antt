@@ -2,9 +2,9 @@ use Rattle.std.proofs.Common.{◌≡◌, ◌<◌, length, None, Some, option_map
 use Rattle.action_eval.specs.SeenEnv.{seen_env}
 use Rattle.action_eval.specs.SeenForms.{seen_step}
 use Rattle.descriptor_types.specs.Labels.{seen_tree}
-use Rattle.rule_syntax.specs.Seen.{seen_left, seen_irule}
-use Rattle.rule_syntax.specs.SeenRules.{seen_rules}
-use Rattle.rule_syntax.specs.declared.rule_set.Rules as rules
+use Rattle.rule_ast.specs.Seen.{seen_left, seen_irule}
+use Rattle.rule_ast.specs.SeenRules.{seen_rules}
+use Rattle.rule_ast.specs.declared.rule_set.Rules as rules
 use Rattle.query_tree.proofs.FoundLaws.{found-IsFound}
 use Rattle.query_tree.proofs.StepLaws.{i_step-false, i_step-true, tells-some, there-at}
 use Rattle.query_tree.specs.SeenFound.{seen_found}

@@ -1,8 +1,8 @@
 use Rattle.std.proofs.Common.{ap, ◌∙◌}
 use Rattle.descriptor_types.specs.Descriptors.{Desc, fits}
-use Rattle.rule_syntax.specs.Descs.{irule_descs}
-use Rattle.rule_syntax.specs.Seen.{seen_irule}
-use Rattle.rule_syntax.specs.SeenRules.{seen_rules}
+use Rattle.rule_ast.specs.Descs.{irule_descs}
+use Rattle.rule_ast.specs.Seen.{seen_irule}
+use Rattle.rule_ast.specs.SeenRules.{seen_rules}
 use Rattle.action_eval.specs.SeenEnv.{seen_env}
 use Rattle.query_tree.proofs.AskedLaws.{algorithm-known, ready-fits}
 use Rattle.query_tree.proofs.i_steps.implemented.Goals as goal

@@ -1,8 +1,8 @@
 use Rattle.std.proofs.Common.{ap, ◌∙◌}
 use Rattle.action_eval.specs.SeenEnv.{seen_env}
 use Rattle.pr_value.specs.Repeats.{are_distinct}
-use Rattle.rule_syntax.specs.Seen.{seen_irule}
-use Rattle.rule_syntax.specs.SeenRules.{seen_rules}
+use Rattle.rule_ast.specs.Seen.{seen_irule}
+use Rattle.rule_ast.specs.SeenRules.{seen_rules}
 use Rattle.query_tree.proofs.AcceptedFacts.{irule_facts}
 use Rattle.query_tree.proofs.AskedLaws.{as_many-asked, asked-descs, env-asked, irule-fits, ready-asked}
 use Rattle.query_tree.specs.Scopes.{root_of}

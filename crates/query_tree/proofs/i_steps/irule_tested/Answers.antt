@@ -1,6 +1,6 @@
-use Rattle.rule_syntax.specs.Descs.{irule_descs}
-use Rattle.rule_syntax.specs.Seen.{seen_irule}
-use Rattle.rule_syntax.specs.SeenRules.{seen_rules}
+use Rattle.rule_ast.specs.Descs.{irule_descs}
+use Rattle.rule_ast.specs.Seen.{seen_irule}
+use Rattle.rule_ast.specs.SeenRules.{seen_rules}
 use Rattle.action_eval.specs.SeenEnv.{seen_env}
 use Rattle.query_tree.proofs.AcceptedFacts.{irule_facts}
 use Rattle.query_tree.proofs.RunLaws.{body-typed}

@@ -1,7 +1,7 @@
 use Rattle.std.proofs.Common.{◌≡◌, ◌++◌, map, take}
 use Rattle.query_tree.specs.SeenFound.{seen_stream}
 use Rattle.query_tree.specs.Views.{view_in}
-use Rattle.rule_syntax.specs.SeenRules.{seen_rules}
+use Rattle.rule_ast.specs.SeenRules.{seen_rules}
 use Rattle.query_tree.proofs.i_steps.push_views.Given as goal
 
 abbrev pub invariant-loop-stream : goal.invariant-loop-stream

@@ -1,9 +1,9 @@
 use Rattle.std.proofs.Common.{map, ap, ◌∙◌}
 use Rattle.action_eval.specs.Environments.{after, are_typed_here}
 use Rattle.action_eval.specs.SeenEnv.{seen_env}
-use Rattle.rule_syntax.specs.Descs.{irule_descs}
-use Rattle.rule_syntax.specs.Seen.{seen_irule, seen_stmt}
-use Rattle.rule_syntax.specs.SeenRules.{seen_rules}
+use Rattle.rule_ast.specs.Descs.{irule_descs}
+use Rattle.rule_ast.specs.Seen.{seen_irule, seen_stmt}
+use Rattle.rule_ast.specs.SeenRules.{seen_rules}
 use Rattle.rule_types.specs.LaterConditions.{but_last}
 use Rattle.query_tree.proofs.AcceptedFacts.{irule_facts}
 use Rattle.query_tree.proofs.AskedLaws.{but_last-map, but_last-typed}

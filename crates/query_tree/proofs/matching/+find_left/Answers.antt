@@ -2,9 +2,9 @@ use Rattle.std.proofs.Common.{◌≡◌, [], refl, ap, sym, ◌∙◌, subst, ma
 use Rattle.std.proofs.lemmas.List.{drop_all}
 use Rattle.descriptor_types.specs.Labels.{seen_tree}
 use Rattle.pr_value.specs.Trees.{tree}
-use Rattle.rule_syntax.specs.Seen.{seen_left_in}
-use Rattle.rule_syntax.specs.SeenRules.{seen_rules}
-use Rattle.rule_syntax.specs.Syntax.{LeftLabel}
+use Rattle.rule_ast.specs.Seen.{seen_left_in}
+use Rattle.rule_ast.specs.SeenRules.{seen_rules}
+use Rattle.rule_ast.specs.Syntax.{LeftLabel}
 use Rattle.query_tree.proofs.MatchLaws.{left_tells, seen_in_stream, stream_tells, other_count, comes_to_none, comes_to_more, comes_to_all}
 use Rattle.query_tree.specs.Found.{Tells, TellsAll}
 use Rattle.query_tree.specs.SeenFound.{seen_found}

@@ -1,6 +1,6 @@
 use Rattle.query_tree.proofs.MatchLaws.{ComesTo}
 use Rattle.query_tree.specs.SeenFound.{seen_found}
-use Rattle.rule_syntax.specs.SeenRules.{seen_rules}
+use Rattle.rule_ast.specs.SeenRules.{seen_rules}
 use Rattle.query_tree.proofs.matching.+find_left.Given as goal
 
 -- what the rest comes to is what all come to

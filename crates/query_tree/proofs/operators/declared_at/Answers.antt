@@ -1,4 +1,4 @@
-use Rattle.rule_syntax.specs.Seen.{seen_operator}
+use Rattle.rule_ast.specs.Seen.{seen_operator}
 use Rattle.query_tree.proofs.AcceptedFacts.{slice_get-map}
 use Rattle.query_tree.proofs.operators.declared_at.Goals as goal
 

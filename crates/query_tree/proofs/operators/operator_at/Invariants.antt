@@ -1,6 +1,6 @@
 use Rattle.std.proofs.Common.{◌≡◌, ◌+◌, drop, map}
 use Rattle.query_tree.specs.Steps.{operator_at}
-use Rattle.rule_syntax.specs.Seen.{seen_operator}
+use Rattle.rule_ast.specs.Seen.{seen_operator}
 use Rattle.query_tree.proofs.operators.operator_at.Given as goal
 
 -- it stands among the rest

@@ -1,8 +1,8 @@
 use Rattle.std.proofs.Common.{ℕ, List, ap, ◌∙◌}
 use Rattle.query_tree.specs.Refusals.{Part}
 use Rattle.query_tree.proofs.PartLaws.{node_pushed}
-use Rattle.rule_syntax.specs.Syntax.{QueryLabel}
-use Rattle.rule_syntax.specs.declared.query.Setting.{Setting}
+use Rattle.rule_ast.specs.Syntax.{QueryLabel}
+use Rattle.rule_ast.specs.declared.query.Setting.{Setting}
 use Rattle.query_tree.proofs.parts.+push_parts.Goals as goal
 
 pub push_parts-returns-in_ok-push_parts_of-in-Node :

@@ -1,7 +1,7 @@
 use Rattle.std.proofs.Common.{◌≡◌, ◌++◌, flat_map, map, take}
 use Rattle.query_tree.specs.Refusals.{parts}
 use Rattle.query_tree.specs.SeenParts.{seen_part}
-use Rattle.rule_syntax.specs.Seen.{seen_query}
+use Rattle.rule_ast.specs.Seen.{seen_query}
 use Rattle.query_tree.proofs.parts.+push_parts.Given as goal
 
 abbrev pub invariant-push_parts_of-loop-query : goal.invariant-push_parts_of-loop-query

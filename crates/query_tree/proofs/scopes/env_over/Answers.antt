@@ -3,7 +3,7 @@ use Rattle.action_eval.specs.Environments.{Env, IsSound, bound_in}
 use Rattle.action_eval.specs.SeenEnv.{seen_env}
 use Rattle.descriptor_types.specs.Descriptors.{Desc}
 use Rattle.query_tree.specs.Scopes.{Scope, env_over}
-use Rattle.rule_syntax.specs.SeenRules.{seen_rules}
+use Rattle.rule_ast.specs.SeenRules.{seen_rules}
 use Rattle.query_tree.proofs.ScopeLaws.{bound_next, bound_whole, sound_over}
 use Rattle.query_tree.proofs.scopes.env_over.Goals as goal
 

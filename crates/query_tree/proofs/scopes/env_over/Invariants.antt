@@ -3,7 +3,7 @@ use Rattle.std.specs.List.{zip}
 use Rattle.action_eval.specs.Environments.{bound_all}
 use Rattle.action_eval.specs.SeenEnv.{seen_env}
 use Rattle.query_tree.specs.Scopes.{env_over}
-use Rattle.rule_syntax.specs.SeenRules.{seen_rules}
+use Rattle.rule_ast.specs.SeenRules.{seen_rules}
 use Rattle.query_tree.proofs.scopes.env_over.Given as goal
 
 -- those so far are bound

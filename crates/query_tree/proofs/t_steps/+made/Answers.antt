@@ -3,10 +3,10 @@ use Rattle.std.proofs.lemmas.List.{take_all}
 use Rattle.action_eval.specs.SeenEnv.{seen_env}
 use Rattle.descriptor_types.specs.Labels.{seen_tree}
 use Rattle.pr_value.specs.Trees.{trees_of}
-use Rattle.rule_syntax.specs.Seen.{seen_right_in}
-use Rattle.rule_syntax.specs.SeenRules.{seen_rules}
-use Rattle.rule_syntax.specs.declared.sides.RightIn as right_in
-use Rattle.rule_syntax.specs.declared.sides.RightIn.{the_lemmas}
+use Rattle.rule_ast.specs.Seen.{seen_right_in}
+use Rattle.rule_ast.specs.SeenRules.{seen_rules}
+use Rattle.rule_ast.specs.declared.sides.RightIn as right_in
+use Rattle.rule_ast.specs.declared.sides.RightIn.{the_lemmas}
 use Rattle.rule_types.specs.Conditions.{is_unknown_right}
 use Rattle.query_tree.proofs.MadeLaws.{all_made-each, made-more, none-at}
 use Rattle.query_tree.specs.SeenFound.{seen_stream}

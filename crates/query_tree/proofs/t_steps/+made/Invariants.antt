@@ -4,8 +4,8 @@ use Rattle.descriptor_types.specs.Labels.{seen_tree}
 use Rattle.pr_value.specs.Trees.{trees_of}
 use Rattle.query_tree.specs.SeenFound.{seen_stream}
 use Rattle.query_tree.specs.Steps.{made}
-use Rattle.rule_syntax.specs.Seen.{seen_right_in}
-use Rattle.rule_syntax.specs.SeenRules.{seen_rules}
+use Rattle.rule_ast.specs.Seen.{seen_right_in}
+use Rattle.rule_ast.specs.SeenRules.{seen_rules}
 use Rattle.rule_types.specs.Conditions.{is_unknown_right}
 use Rattle.rule_types.specs.Uses.{any_nodes}
 use Rattle.query_tree.proofs.t_steps.+made.Given as goal

@@ -2,7 +2,7 @@ use Rattle.std.proofs.Common.{List, map, option_map, IfSome, ap, sym, ◌∙◌,
 use Rattle.action_eval.specs.SeenEnv.{seen_env}
 use Rattle.descriptor_types.specs.Labels.{Label}
 use Rattle.pr_value.specs.Trees.{Tree}
-use Rattle.rule_syntax.specs.Descs.{trule_descs}
+use Rattle.rule_ast.specs.Descs.{trule_descs}
 use Rattle.rule_types.specs.Conditions.{is_unknown_right}
 use Rattle.rule_types.specs.Uses.{any_node}
 use Rattle.query_tree.specs.Applied.{IsReady}
@@ -10,8 +10,8 @@ use Rattle.query_tree.specs.SeenFound.{seen_found, seen_stream}
 use Rattle.query_tree.specs.Steps.{made}
 use Rattle.query_tree.specs.Trees.{IsTree}
 use Rattle.query_tree.specs.declared.matching.Stream as stream
-use Rattle.rule_syntax.specs.Seen.{seen_trule}
-use Rattle.rule_syntax.specs.SeenRules.{seen_rules}
+use Rattle.rule_ast.specs.Seen.{seen_trule}
+use Rattle.rule_ast.specs.SeenRules.{seen_rules}
 use Rattle.query_tree.proofs.AcceptedFacts.{accepted-operators, trule_facts}
 use Rattle.query_tree.proofs.FoundLaws.{every-fits}
 use Rattle.query_tree.proofs.SoundLaws.{plain-sound}

@@ -1,8 +1,8 @@
 use Rattle.std.proofs.Common.{◌≡◌, ◌<◌, length, None, IfOk, option_map, sym, subst}
 use Rattle.descriptor_types.specs.Labels.{seen_tree}
-use Rattle.rule_syntax.specs.Seen.{seen_left, seen_trule}
-use Rattle.rule_syntax.specs.SeenRules.{seen_rules}
-use Rattle.rule_syntax.specs.declared.rule_set.Rules as rules
+use Rattle.rule_ast.specs.Seen.{seen_left, seen_trule}
+use Rattle.rule_ast.specs.SeenRules.{seen_rules}
+use Rattle.rule_ast.specs.declared.rule_set.Rules as rules
 use Rattle.query_tree.proofs.FoundLaws.{found-IsFound}
 use Rattle.query_tree.proofs.StepLaws.{came-step, step-none, tells-none, tells-some, there-at}
 use Rattle.query_tree.specs.SeenFound.{seen_found}

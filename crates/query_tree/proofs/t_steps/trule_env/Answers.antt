@@ -1,9 +1,9 @@
 use Rattle.std.proofs.Common.{refl, ap, ◌∙◌}
 use Rattle.action_eval.specs.SeenEnv.{seen_env}
 use Rattle.pr_value.specs.Repeats.{are_distinct}
-use Rattle.rule_syntax.specs.Descs.{right_descs}
-use Rattle.rule_syntax.specs.Seen.{seen_trule}
-use Rattle.rule_syntax.specs.SeenRules.{seen_rules}
+use Rattle.rule_ast.specs.Descs.{right_descs}
+use Rattle.rule_ast.specs.Seen.{seen_trule}
+use Rattle.rule_ast.specs.SeenRules.{seen_rules}
 use Rattle.query_tree.proofs.AcceptedFacts.{trule_facts}
 use Rattle.query_tree.proofs.RunLaws.{env-prepared, ready-prepared, rest-names, slots-fit, with-defaults}
 use Rattle.query_tree.proofs.t_steps.trule_env.Goals as goal

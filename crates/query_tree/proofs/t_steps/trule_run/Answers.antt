@@ -1,6 +1,6 @@
-use Rattle.rule_syntax.specs.Descs.{trule_descs}
-use Rattle.rule_syntax.specs.Seen.{seen_stmt, seen_trule}
-use Rattle.rule_syntax.specs.SeenRules.{seen_rules}
+use Rattle.rule_ast.specs.Descs.{trule_descs}
+use Rattle.rule_ast.specs.Seen.{seen_stmt, seen_trule}
+use Rattle.rule_ast.specs.SeenRules.{seen_rules}
 use Rattle.std.proofs.Common.{map, ap, ◌∙◌}
 use Rattle.action_eval.specs.Environments.{are_typed_here}
 use Rattle.action_eval.specs.SeenEnv.{seen_env}

@@ -3,8 +3,8 @@ use Rattle.std.specs.Prelude.{All}
 use Rattle.action_eval.specs.SeenEnv.{seen_env}
 use Rattle.derivation.proofs.StandsLaws.{keeps_of_take, stand_still}
 use Rattle.pr_value.specs.Trees.{trees_of}
-use Rattle.rule_syntax.specs.SeenRules.{seen_rules}
-use Rattle.rule_syntax.specs.declared.sides.RightIn.{the_lemmas}
+use Rattle.rule_ast.specs.SeenRules.{seen_rules}
+use Rattle.rule_ast.specs.declared.sides.RightIn.{the_lemmas}
 use Rattle.rule_types.specs.Conditions.{is_unknown_right, wrong_right}
 use Rattle.query_tree.proofs.AddLaws.{kept_itself, kept_trans, stand_within}
 use Rattle.query_tree.proofs.EnforcerLaws.{seen_irules-bare}

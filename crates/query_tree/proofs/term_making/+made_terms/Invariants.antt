@@ -2,8 +2,8 @@ use Rattle.std.proofs.Common.{◌≡◌, drop, false, length, map, take}
 use Rattle.action_eval.specs.SeenEnv.{seen_env}
 use Rattle.pr_value.specs.Trees.{trees_of}
 use Rattle.query_tree.proofs.TermMadeLaws.{MadeSoFar}
-use Rattle.rule_syntax.specs.Seen.{seen_right_in}
-use Rattle.rule_syntax.specs.SeenRules.{seen_rules}
+use Rattle.rule_ast.specs.Seen.{seen_right_in}
+use Rattle.rule_ast.specs.SeenRules.{seen_rules}
 use Rattle.rule_types.specs.Conditions.{is_unknown_right, wrong_right}
 use Rattle.rule_types.specs.Uses.{any_nodes}
 use Rattle.query_tree.proofs.term_making.+made_terms.Given as goal

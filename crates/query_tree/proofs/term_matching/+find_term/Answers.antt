@@ -1,9 +1,9 @@
 use Rattle.std.proofs.Common.{◌≡◌, ◌∙◌, [], ap, arith, get_or, map, refl, subst, sym, true}
 use Rattle.std.proofs.lemmas.List.{drop_all}
 use Rattle.pr_value.specs.Trees.{Tree, tree}
-use Rattle.rule_syntax.specs.Seen.{seen_left, seen_left_in}
-use Rattle.rule_syntax.specs.SeenRules.{seen_rules}
-use Rattle.rule_syntax.specs.Syntax.{LeftLabel}
+use Rattle.rule_ast.specs.Seen.{seen_left, seen_left_in}
+use Rattle.rule_ast.specs.SeenRules.{seen_rules}
+use Rattle.rule_ast.specs.Syntax.{LeftLabel}
 use Rattle.query_tree.proofs.MatchLaws.{seen_in_stream}
 use Rattle.query_tree.proofs.TermMatchLaws.{absent_tells, code_tells, code_tells_file, code_tells_inputs, code_tells_other, comes_to_all, comes_to_more, comes_to_none, got_within, other_count, tells_stream}
 use Rattle.query_tree.specs.FoundTerms.{TellsTerm, TellsTerms}

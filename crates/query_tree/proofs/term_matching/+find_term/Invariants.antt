@@ -1,6 +1,6 @@
 use Rattle.query_tree.proofs.TermMatchLaws.{ComesTo}
 use Rattle.query_tree.specs.SeenFoundTerms.{seen_found_terms}
-use Rattle.rule_syntax.specs.SeenRules.{seen_rules}
+use Rattle.rule_ast.specs.SeenRules.{seen_rules}
 use Rattle.query_tree.proofs.term_matching.+find_term.Given as goal
 
 -- what the rest comes to is what all come to

@@ -1,8 +1,8 @@
 use Rattle.std.proofs.Common.{List, ap, map, option_map, subst, sym, ◌∙◌, ℕ}
 use Rattle.action_eval.proofs.PlainLaws.{or_second}
 use Rattle.action_eval.specs.SeenEnv.{seen_env}
-use Rattle.rule_syntax.specs.Seen.{seen_right, seen_trule}
-use Rattle.rule_syntax.specs.SeenRules.{seen_rules}
+use Rattle.rule_ast.specs.Seen.{seen_right, seen_trule}
+use Rattle.rule_ast.specs.SeenRules.{seen_rules}
 use Rattle.rule_types.specs.Conditions.{is_unknown_right}
 use Rattle.rule_types.specs.Uses.{any_node}
 use Rattle.query_tree.proofs.AcceptedFacts.{trule_facts}

@@ -2,8 +2,8 @@ use Rattle.std.proofs.Common.{ap, option_map, sym, ◌∙◌, subst}
 use Rattle.std.specs.List.{list_all}
 use Rattle.derivation.proofs.StandsLaws.{stands_for}
 use Rattle.descriptor_types.specs.Descriptors.{fits}
-use Rattle.rule_syntax.specs.Seen.{seen_left, seen_trule}
-use Rattle.rule_syntax.specs.SeenRules.{seen_rules}
+use Rattle.rule_ast.specs.Seen.{seen_left, seen_trule}
+use Rattle.rule_ast.specs.SeenRules.{seen_rules}
 use Rattle.query_tree.proofs.TermStepLaws.{found-as_many, found-fit, found-numbers, found-slots-fit, found-stand, steps-rewritten, steps-unfit}
 use Rattle.query_tree.specs.Dressed.{streams_in}
 use Rattle.query_tree.specs.FoundTerms.{TellsRootTerm}

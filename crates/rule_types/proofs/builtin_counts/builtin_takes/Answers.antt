@@ -1,5 +1,5 @@
 use Rattle.std.proofs.Common.{sym, ap, ◌∙◌}
-use Rattle.rule_syntax.specs.Typing.{builtin_of}
+use Rattle.rule_ast.specs.Typing.{builtin_of}
 use Rattle.rule_types.specs.BuiltinCounts.{takes_if}
 use Rattle.rule_types.proofs.BuiltinCountLaws.{has_signature-builtins}
 use Rattle.rule_types.proofs.builtin_counts.builtin_takes.Goals as goal

@@ -1,6 +1,6 @@
 use Rattle.std.proofs.Common.{◌≡◌, take, map}
-use Rattle.rule_syntax.specs.Seen.{seen_helper}
-use Rattle.rule_syntax.specs.Typing.{helper_result, signatures_of}
+use Rattle.rule_ast.specs.Seen.{seen_helper}
+use Rattle.rule_ast.specs.Typing.{helper_result, signatures_of}
 use Rattle.rule_types.proofs.calls.helper_result.Given as goal
 
 abbrev pub invariant-loop-helper : goal.invariant-loop-helper

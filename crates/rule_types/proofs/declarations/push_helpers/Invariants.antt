@@ -1,5 +1,5 @@
 use Rattle.std.proofs.Common.{◌≡◌, ◌++◌, take, map}
-use Rattle.rule_syntax.specs.Seen.{seen_helper}
+use Rattle.rule_ast.specs.Seen.{seen_helper}
 use Rattle.rule_types.specs.Declarations.{placed, helper}
 use Rattle.rule_types.specs.SeenDeclarations.{seen_declaration}
 use Rattle.rule_types.proofs.declarations.push_helpers.Given as goal

@@ -1,6 +1,6 @@
 use Rattle.std.proofs.Common.{◌++◌, map, refl, ap, ◌∙◌, arith}
 use Rattle.std.proofs.lemmas.List.{take_all}
-use Rattle.rule_syntax.specs.Seen.{seen_operator}
+use Rattle.rule_ast.specs.Seen.{seen_operator}
 use Rattle.rule_types.specs.Declarations.{operator, placed}
 use Rattle.rule_types.specs.SeenDeclarations.{seen_declaration}
 use Rattle.rule_types.proofs.PlacedLaws.{pushed-seen}

@@ -1,6 +1,6 @@
 use Rattle.std.proofs.Common.{◌≡◌, drop, map}
 use Rattle.pr_value.specs.SymbolSets.{contains}
-use Rattle.rule_syntax.specs.Seen.{seen_irule}
+use Rattle.rule_ast.specs.Seen.{seen_irule}
 use Rattle.rule_types.specs.Conditions.{irule_names}
 use Rattle.rule_types.proofs.declared.is_irule.Given as goal
 

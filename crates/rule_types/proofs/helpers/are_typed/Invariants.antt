@@ -1,6 +1,6 @@
 use Rattle.std.proofs.Common.{◌≡◌, [], drop, take, map}
-use Rattle.rule_syntax.specs.Seen.{seen_helper}
-use Rattle.rule_syntax.specs.Typing.{are_typed, signatures_of}
+use Rattle.rule_ast.specs.Seen.{seen_helper}
+use Rattle.rule_ast.specs.Typing.{are_typed, signatures_of}
 use Rattle.rule_types.proofs.helpers.are_typed.Given as goal
 
 -- the rest decides, over the helpers so far

@@ -1,7 +1,7 @@
 use Rattle.std.proofs.Common.{◌≡◌, drop, map}
 use Rattle.std.specs.List.{find}
 use Rattle.std.specs.Option.{option_map}
-use Rattle.rule_syntax.specs.SeenRules.{seen_rules}
+use Rattle.rule_ast.specs.SeenRules.{seen_rules}
 use Rattle.rule_types.specs.Conditions.{holds}
 use Rattle.rule_types.specs.Declarations.{declared_name}
 use Rattle.rule_types.specs.SeenDeclarations.{seen_declaration}

@@ -1,5 +1,5 @@
 use Rattle.std.proofs.Common.{◌-◌, ◌^◌, ◌∙◌}
-use Rattle.rule_syntax.specs.Seen.{seen_left_in}
+use Rattle.rule_ast.specs.Seen.{seen_left_in}
 use Rattle.rule_types.specs.Uses.{counts_left}
 use Rattle.rule_types.proofs.NodeLaws.{nodes_of-more}
 use Rattle.rule_types.proofs.SideLaws.{left_counted}

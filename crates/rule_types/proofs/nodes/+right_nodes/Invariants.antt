@@ -1,6 +1,6 @@
 use Rattle.std.proofs.Common.{◌≡◌, ◌-◌, ◌^◌, min, take, map}
 use Rattle.pr_value.specs.Trees.{trees_of}
-use Rattle.rule_syntax.specs.Seen.{seen_right_in}
+use Rattle.rule_ast.specs.Seen.{seen_right_in}
 use Rattle.rule_types.specs.Uses.{nodes_of, counts_right}
 use Rattle.rule_types.proofs.nodes.+right_nodes.Given as goal
 

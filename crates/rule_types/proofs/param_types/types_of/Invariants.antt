@@ -2,7 +2,7 @@ use Rattle.std.proofs.Common.{◌≡◌, ◌≤◌, length, drop}
 use Rattle.std.specs.BTreeMap.{get}
 use Rattle.pr_value.specs.Symbols.{Symbol}
 use Rattle.pr_value.specs.SymbolSets.{compare_symbols}
-use Rattle.rule_syntax.specs.Typing.{params_context, var_type}
+use Rattle.rule_ast.specs.Typing.{params_context, var_type}
 use Rattle.rule_types.proofs.param_types.types_of.Given as goal
 
 -- those from the place on decide

@@ -1,5 +1,5 @@
 use Rattle.std.proofs.Common.{◌≡◌, drop}
-use Rattle.rule_syntax.specs.SeenRules.{seen_rules}
+use Rattle.rule_ast.specs.SeenRules.{seen_rules}
 use Rattle.rule_types.specs.Conditions.{first_refused}
 use Rattle.rule_types.proofs.refusing.first_refused.Given as goal
 

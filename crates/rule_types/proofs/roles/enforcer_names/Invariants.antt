@@ -1,8 +1,8 @@
 use Rattle.std.proofs.Common.{◌≡◌, map, take}
 use Rattle.pr_value.specs.SymbolSets.{contains}
 use Rattle.pr_value.specs.Symbols.{Symbol}
-use Rattle.rule_syntax.specs.Roles.{is_enforcer}
-use Rattle.rule_syntax.specs.Seen.{seen_irule}
+use Rattle.rule_ast.specs.Roles.{is_enforcer}
+use Rattle.rule_ast.specs.Seen.{seen_irule}
 use Rattle.rule_types.proofs.roles.enforcer_names.Given as goal
 
 -- those of the rules so far

@@ -1,7 +1,7 @@
 use Rattle.std.proofs.Common.{false, map, ap, ◌∙◌}
 use Rattle.std.proofs.lemmas.List.{take_all}
-use Rattle.rule_syntax.specs.Roles.{is_physical, passes_on}
-use Rattle.rule_syntax.specs.Seen.{seen_irule}
+use Rattle.rule_ast.specs.Roles.{is_physical, passes_on}
+use Rattle.rule_ast.specs.Seen.{seen_irule}
 use Rattle.rule_types.proofs.RoleLaws.{any-more}
 use Rattle.rule_types.proofs.roles.physical_names.Goals as goal
 

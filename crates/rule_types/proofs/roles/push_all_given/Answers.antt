@@ -2,8 +2,8 @@ use Rattle.std.proofs.Common.{◌||◌, map, ap, ◌∙◌}
 use Rattle.std.proofs.lemmas.List.{take_all}
 use Rattle.std.specs.List.{list_any}
 use Rattle.pr_value.specs.SymbolSets.{contains}
-use Rattle.rule_syntax.specs.Roles.{assigns}
-use Rattle.rule_syntax.specs.Seen.{seen_stmt}
+use Rattle.rule_ast.specs.Roles.{assigns}
+use Rattle.rule_ast.specs.Seen.{seen_stmt}
 use Rattle.rule_types.proofs.RoleLaws.{any-more}
 use Rattle.rule_types.proofs.roles.push_all_given.Goals as goal
 

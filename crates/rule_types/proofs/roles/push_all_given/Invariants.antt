@@ -2,8 +2,8 @@ use Rattle.std.proofs.Common.{◌≡◌, ◌||◌, map, take}
 use Rattle.std.specs.List.{list_any}
 use Rattle.pr_value.specs.SymbolSets.{contains}
 use Rattle.pr_value.specs.Symbols.{Symbol}
-use Rattle.rule_syntax.specs.Roles.{assigns}
-use Rattle.rule_syntax.specs.Seen.{seen_stmt}
+use Rattle.rule_ast.specs.Roles.{assigns}
+use Rattle.rule_ast.specs.Seen.{seen_stmt}
 use Rattle.rule_types.proofs.roles.push_all_given.Given as goal
 
 -- those of the statements so far

@@ -1,6 +1,6 @@
 use Rattle.std.proofs.Common.{map, refl}
 use Rattle.pr_value.specs.Trees.{trees_of}
-use Rattle.rule_syntax.specs.Seen.{seen_left_in}
+use Rattle.rule_ast.specs.Seen.{seen_left_in}
 use Rattle.rule_types.specs.Uses.{any_node, any_nodes}
 use Rattle.rule_types.proofs.StepLaws.{rest-found, rest-more, rest-none}
 use Rattle.rule_types.proofs.sides.+any_left.Goals as goal

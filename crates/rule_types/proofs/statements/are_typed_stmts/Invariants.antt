@@ -1,7 +1,7 @@
 use Rattle.std.proofs.Common.{◌≡◌, drop, map}
 use Rattle.std.specs.List.{list_all}
-use Rattle.rule_syntax.specs.Seen.{seen_helper, seen_stmt}
-use Rattle.rule_syntax.specs.Typing.{is_typed_stmt, signatures_of}
+use Rattle.rule_ast.specs.Seen.{seen_helper, seen_stmt}
+use Rattle.rule_ast.specs.Typing.{is_typed_stmt, signatures_of}
 use Rattle.rule_types.specs.Contexts.{seen_context}
 use Rattle.rule_types.proofs.statements.are_typed_stmts.Given as goal
 

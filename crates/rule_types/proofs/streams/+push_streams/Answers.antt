@@ -1,6 +1,6 @@
 use Rattle.std.proofs.Common.{◌++◌, flat_map, ap, ◌∙◌}
 use Rattle.std.proofs.lemmas.List.{take_all}
-use Rattle.rule_syntax.specs.Seen.{seen_left_in}
+use Rattle.rule_ast.specs.Seen.{seen_left_in}
 use Rattle.rule_types.specs.Uses.{streams}
 use Rattle.rule_types.proofs.SideLaws.{streams_pushed, streams-more}
 use Rattle.rule_types.proofs.streams.+push_streams.Goals as goal

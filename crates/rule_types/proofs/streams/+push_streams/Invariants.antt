@@ -1,5 +1,5 @@
 use Rattle.std.proofs.Common.{◌≡◌, ◌++◌, flat_map, take}
-use Rattle.rule_syntax.specs.Seen.{seen_left_in}
+use Rattle.rule_ast.specs.Seen.{seen_left_in}
 use Rattle.rule_types.specs.Uses.{streams}
 use Rattle.rule_types.proofs.streams.+push_streams.Given as goal
 

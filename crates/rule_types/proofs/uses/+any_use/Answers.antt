@@ -1,5 +1,5 @@
 use Rattle.std.proofs.Common.{map, refl}
-use Rattle.rule_syntax.specs.Seen.{exprs_of, seen_expr}
+use Rattle.rule_ast.specs.Seen.{exprs_of, seen_expr}
 use Rattle.rule_types.specs.SeenUses.{seen_folds}
 use Rattle.rule_types.specs.Uses.{any_use, any_uses}
 use Rattle.rule_types.proofs.StepLaws.{rest-found, rest-more, rest-none}

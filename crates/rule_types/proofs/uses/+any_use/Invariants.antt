@@ -1,5 +1,5 @@
 use Rattle.std.proofs.Common.{◌≡◌, drop, map}
-use Rattle.rule_syntax.specs.Seen.{seen_expr, exprs_of}
+use Rattle.rule_ast.specs.Seen.{seen_expr, exprs_of}
 use Rattle.rule_types.specs.SeenUses.{seen_folds}
 use Rattle.rule_types.specs.Uses.{any_uses}
 use Rattle.rule_types.proofs.uses.+any_use.Given as goal

@@ -1,6 +1,6 @@
 use Rattle.std.proofs.Common.{map, refl}
 use Rattle.std.specs.List.{list_any}
-use Rattle.rule_syntax.specs.Seen.{seen_stmt}
+use Rattle.rule_ast.specs.Seen.{seen_stmt}
 use Rattle.rule_types.specs.Uses.{any_use_in}
 use Rattle.rule_types.proofs.StepLaws.{rest-found, rest-more, rest-none}
 use Rattle.rule_types.proofs.uses.any_use_in_stmts.Goals as goal

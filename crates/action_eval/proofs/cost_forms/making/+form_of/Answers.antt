@@ -2,7 +2,7 @@ use Rattle.std.proofs.Common.{inl, inr, refl, sym, ◌∙◌, rules, arith}
 use Rattle.std.proofs.lemmas.Bool.Decides.{nat_tests}
 use Rattle.std.proofs.lemmas.List.{length-map}
 use Rattle.std.proofs.lemmas.Result.{IfOk-weaker}
-use Rattle.rule_syntax.specs.declared.expr.Expr.{the_lemmas}
+use Rattle.rule_ast.specs.declared.expr.Expr.{the_lemmas}
 use Rattle.action_eval.proofs.FormCases.{no_other_arguments, read_seen, binary_seen, two_seen, three_seen, sum_asked, multiple_asked, two_asked, three_asked, number_made, input_made, sum_made, multiple_made, greater_made, lesser_made, first_made, second_made}
 use Rattle.action_eval.proofs.cost_forms.making.+form_of.Goals as goal
 use Rattle.action_eval.proofs.cost_forms.making.+form_of.Goals.{in_default-as_slice-via-then-as_slice-lt2, in_default-as_slice-via-else-as_slice-lt2+else-this-lt3+else-this-lt4}

@@ -1,5 +1,5 @@
 use Rattle.std.proofs.Common.{◌≡◌, ◌+◌, drop}
-use Rattle.rule_syntax.specs.Descs.{names_of}
+use Rattle.rule_ast.specs.Descs.{names_of}
 use Rattle.action_eval.specs.Forms.{place}
 use Rattle.action_eval.proofs.cost_forms.places.place_of.Given as goal
 

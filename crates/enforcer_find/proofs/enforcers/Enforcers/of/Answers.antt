@@ -1,5 +1,5 @@
 use Rattle.std.proofs.Common.{map, ap, ◌∙◌}
-use Rattle.rule_syntax.specs.Seen.{seen_irule, seen_operator}
+use Rattle.rule_ast.specs.Seen.{seen_irule, seen_operator}
 use Rattle.enforcer_find.specs.Enforcers.{has_null, rules_of}
 use Rattle.enforcer_find.proofs.PlaceLaws.{enforcers_each}
 use Rattle.enforcer_find.proofs.enforcers.Enforcers.of.Goals as goal

@@ -1,4 +1,4 @@
-use Rattle.rule_syntax.specs.SeenRules.{seen_rules}
+use Rattle.rule_ast.specs.SeenRules.{seen_rules}
 use Rattle.rule_types.specs.declared.accepted.Accepted.{Accepted}
 use Rattle.prairie_top.specs.Reading.{rules_grammar}
 use Rattle.prairie_top.proofs.ReadingLaws.{read_tokens}

@@ -1,5 +1,5 @@
-use Rattle.rule_syntax.specs.Seen.{seen_query}
-use Rattle.rule_syntax.specs.SeenRules.{seen_rules}
+use Rattle.rule_ast.specs.Seen.{seen_query}
+use Rattle.rule_ast.specs.SeenRules.{seen_rules}
 use Rattle.prairie_top.specs.declared.reading.Built.{Built}
 use Rattle.prairie_top.specs.Reading.{query_grammar}
 use Rattle.prairie_top.proofs.ReadingLaws.{read_tokens}

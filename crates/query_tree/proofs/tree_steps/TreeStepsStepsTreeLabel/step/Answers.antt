@@ -1,7 +1,7 @@
 use Rattle.std.proofs.Common.{◌<◌, List, ap, get_or, length, subst, ◌∙◌}
-use Rattle.rule_syntax.specs.Seen.{seen_trule}
-use Rattle.rule_syntax.specs.SeenRules.{seen_rules}
-use Rattle.rule_syntax.specs.declared.parts.TRule as trule
+use Rattle.rule_ast.specs.Seen.{seen_trule}
+use Rattle.rule_ast.specs.SeenRules.{seen_rules}
+use Rattle.rule_ast.specs.declared.parts.TRule as trule
 use Rattle.query_tree.proofs.AcceptedFacts.{contains-map, slice_get-map}
 use Rattle.query_tree.proofs.TermStepLaws.{steps-given}
 use Rattle.query_tree.proofs.tree_steps.TreeStepsStepsTreeLabel.step.Goals as goal

@@ -1,5 +1,5 @@
 use Rattle.std.proofs.Common.{arith}
-use Rattle.rule_syntax.specs.Seen.{seen_expr}
+use Rattle.rule_ast.specs.Seen.{seen_expr}
 use Rattle.rule_syntax.specs.Tokens.{expr_tokens}
 use Rattle.rule_syntax.proofs.PrintLaws.{commas_step, set_pieces, list_pieces, call_pieces, binary_pieces, fold_pieces}
 use Rattle.rule_syntax.proofs.printing.expr.+push_expr.Goals as goal

@@ -1,5 +1,5 @@
 use Rattle.std.proofs.Common.{◌≡◌, ◌++◌, map, take}
-use Rattle.rule_syntax.specs.Seen.{seen_expr}
+use Rattle.rule_ast.specs.Seen.{seen_expr}
 use Rattle.rule_syntax.specs.Tokens.{commas, expr_tokens}
 use Rattle.rule_syntax.proofs.printing.expr.+push_expr.Given as goal
 

@@ -1,5 +1,5 @@
 use Rattle.std.proofs.Common.{arith}
-use Rattle.rule_syntax.specs.Seen.{seen_left_in}
+use Rattle.rule_ast.specs.Seen.{seen_left_in}
 use Rattle.rule_syntax.specs.Tokens.{left_tokens}
 use Rattle.rule_syntax.proofs.PrintLaws.{commas_step, left_pieces}
 use Rattle.rule_syntax.proofs.printing.sides.+push_left.Goals as goal

@@ -1,5 +1,5 @@
 use Rattle.std.proofs.Common.{◌≡◌, ◌++◌, map, take}
-use Rattle.rule_syntax.specs.Seen.{seen_right_in}
+use Rattle.rule_ast.specs.Seen.{seen_right_in}
 use Rattle.rule_syntax.specs.Tokens.{commas, right_tokens}
 use Rattle.rule_syntax.proofs.printing.sides.+push_right.Given as goal
 

@@ -1,7 +1,7 @@
 use Rattle.std.proofs.Common.{◌≡◌, length, map, ◌+◌, ◌*◌}
 use Rattle.rule_syntax.specs.Reading.{listed_at, before}
 use Rattle.rule_syntax.specs.ReadingExpr.{expr_at}
-use Rattle.rule_syntax.specs.Seen.{seen_expr}
+use Rattle.rule_ast.specs.Seen.{seen_expr}
 use Rattle.rule_syntax.proofs.reading.expr.+expr.Given as goal
 
 abbrev pub decreases-expr : goal.decreases-expr

@@ -5,7 +5,7 @@ use Rattle.pr_value.specs.declared.token.Mark.TheVariants.{CloseBrace}
 use Rattle.rule_syntax.specs.Levels.{most_levels}
 use Rattle.rule_syntax.specs.Reading.{unmarked, many_at, before}
 use Rattle.rule_syntax.specs.ReadingParts.{stmt_at}
-use Rattle.rule_syntax.specs.Seen.{seen_stmt}
+use Rattle.rule_ast.specs.Seen.{seen_stmt}
 use Rattle.rule_syntax.proofs.Opening.{passed_on, many_last, many_out, many_bad, many_more, map_push}
 use Rattle.rule_syntax.proofs.reading.parts.stmts.Goals as goal
 

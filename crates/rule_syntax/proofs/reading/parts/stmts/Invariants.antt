@@ -3,7 +3,7 @@ use Rattle.pr_value.specs.declared.token.Mark.TheVariants.{CloseBrace}
 use Rattle.rule_syntax.specs.Levels.{most_levels}
 use Rattle.rule_syntax.specs.Reading.{unmarked, many_at, before}
 use Rattle.rule_syntax.specs.ReadingParts.{stmt_at}
-use Rattle.rule_syntax.specs.Seen.{seen_stmt}
+use Rattle.rule_ast.specs.Seen.{seen_stmt}
 use Rattle.rule_syntax.proofs.reading.parts.stmts.Given as goal
 
 -- what is read so far goes before what the rest gives, and the whole gives just that

@@ -2,7 +2,7 @@ use Rattle.std.proofs.Common.{◌-◌, Some, length, map, sym, ap, ◌∙◌}
 use Rattle.std.proofs.lemmas.Result.{err_from_is_err_and}
 use Rattle.rule_syntax.specs.Reading.{listed_at, before}
 use Rattle.rule_syntax.specs.ReadingQuery.{query_at}
-use Rattle.rule_syntax.specs.Seen.{seen_query}
+use Rattle.rule_ast.specs.Seen.{seen_query}
 use Rattle.rule_syntax.proofs.Opening.{passed_on, listed_out, listed_bad, listed_last, listed_more, map_push}
 use Rattle.rule_syntax.proofs.reading.query.+query.Goals as goal
 

@@ -1,7 +1,7 @@
 use Rattle.std.proofs.Common.{◌≡◌, length, map, ◌+◌, ◌*◌}
 use Rattle.rule_syntax.specs.Reading.{listed_at, before}
 use Rattle.rule_syntax.specs.ReadingQuery.{query_at}
-use Rattle.rule_syntax.specs.Seen.{seen_query}
+use Rattle.rule_ast.specs.Seen.{seen_query}
 use Rattle.rule_syntax.proofs.reading.query.+query.Given as goal
 
 abbrev pub decreases-query : goal.decreases-query

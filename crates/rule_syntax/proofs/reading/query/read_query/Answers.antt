@@ -3,12 +3,12 @@ use Rattle.rule_syntax.specs.declared.error.SyntaxError.{SyntaxError}
 use Rattle.rule_syntax.specs.declared.error.SyntaxError.TheVariants.{Memory}
 use Rattle.rule_syntax.specs.declared.reading.stop.Stop.{Stop}
 use Rattle.rule_syntax.specs.declared.reading.stop.Stop.TheVariants as stop
-use Rattle.rule_syntax.specs.Syntax.{Query}
+use Rattle.rule_ast.specs.Syntax.{Query}
 use Rattle.rule_syntax.specs.Tokens.{Text}
 use Rattle.rule_syntax.specs.Levels.{IsQuery}
 use Rattle.rule_syntax.specs.Reading.{Fails}
 use Rattle.rule_syntax.specs.ReadingQuery.{whole_query_at}
-use Rattle.rule_syntax.specs.Seen.{seen_query}
+use Rattle.rule_ast.specs.Seen.{seen_query}
 use Rattle.rule_syntax.proofs.TokenLaws.{some_same}
 use Rattle.rule_syntax.proofs.QueryLaws.{query_found, query_again}
 use Rattle.rule_syntax.proofs.reading.query.read_query.Goals as goal

@@ -3,12 +3,12 @@ use Rattle.rule_syntax.specs.declared.error.SyntaxError.{SyntaxError}
 use Rattle.rule_syntax.specs.declared.error.SyntaxError.TheVariants.{Memory}
 use Rattle.rule_syntax.specs.declared.reading.stop.Stop.{Stop}
 use Rattle.rule_syntax.specs.declared.reading.stop.Stop.TheVariants as stop
-use Rattle.rule_syntax.specs.Syntax.{Rules}
+use Rattle.rule_ast.specs.Syntax.{Rules}
 use Rattle.rule_syntax.specs.Tokens.{Text}
 use Rattle.rule_syntax.specs.Levels.{most_levels, IsRules}
 use Rattle.rule_syntax.specs.Reading.{Fails}
 use Rattle.rule_syntax.specs.ReadingRules.{rules_at}
-use Rattle.rule_syntax.specs.SeenRules.{seen_rules}
+use Rattle.rule_ast.specs.SeenRules.{seen_rules}
 use Rattle.rule_syntax.proofs.TokenLaws.{some_same}
 use Rattle.rule_syntax.proofs.RulesLaws.{rules_found, rules_again}
 use Rattle.rule_syntax.proofs.reading.rules.read_rules.Goals as goal

@@ -1,6 +1,6 @@
 use Rattle.std.proofs.Common.{map}
 use Rattle.rule_syntax.specs.Levels.{most_levels}
-use Rattle.rule_syntax.specs.Seen.{seen_operator, seen_helper, seen_trule, seen_irule}
+use Rattle.rule_ast.specs.Seen.{seen_operator, seen_helper, seen_trule, seen_irule}
 use Rattle.rule_syntax.proofs.RulesLaws.{sections_spelled}
 use Rattle.rule_syntax.proofs.reading.rules.whole.Goals as goal
 

@@ -1,7 +1,7 @@
 use Rattle.std.proofs.Common.{◌≡◌, length, map, ◌+◌, ◌*◌}
 use Rattle.rule_syntax.specs.Reading.{listed_at, before}
 use Rattle.rule_syntax.specs.ReadingSides.{right_at, right_in_at}
-use Rattle.rule_syntax.specs.Seen.{seen_right_in}
+use Rattle.rule_ast.specs.Seen.{seen_right_in}
 use Rattle.rule_syntax.proofs.reading.sides.+right.Given as goal
 
 abbrev pub decreases-right : goal.decreases-right

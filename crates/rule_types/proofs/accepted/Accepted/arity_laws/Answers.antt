@@ -1,4 +1,4 @@
-use Rattle.rule_syntax.specs.SeenRules.{seen_rules}
+use Rattle.rule_ast.specs.SeenRules.{seen_rules}
 use Rattle.rule_types.proofs.AcceptedArities.{accepted-arities, accepted-known}
 use Rattle.rule_types.proofs.accepted.Accepted.arity_laws.Goals as goal
 

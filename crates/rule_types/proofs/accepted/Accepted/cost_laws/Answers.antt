@@ -1,4 +1,4 @@
-use Rattle.rule_syntax.specs.SeenRules.{seen_rules}
+use Rattle.rule_ast.specs.SeenRules.{seen_rules}
 use Rattle.rule_types.proofs.AcceptedCosts.{accepted-assigned, accepted-copies, accepted-costs, accepted-one_cost, accepted-read}
 use Rattle.rule_types.proofs.accepted.Accepted.cost_laws.Goals as goal
 

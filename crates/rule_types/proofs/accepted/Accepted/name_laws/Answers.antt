@@ -1,4 +1,4 @@
-use Rattle.rule_syntax.specs.SeenRules.{seen_rules}
+use Rattle.rule_ast.specs.SeenRules.{seen_rules}
 use Rattle.rule_types.proofs.AcceptedNames.{accepted-descs, accepted-limits, accepted-names}
 use Rattle.rule_types.proofs.accepted.Accepted.name_laws.Goals as goal
 

@@ -1,4 +1,4 @@
-use Rattle.rule_syntax.specs.SeenRules.{seen_rules}
+use Rattle.rule_ast.specs.SeenRules.{seen_rules}
 use Rattle.rule_types.proofs.AcceptedSides.{accepted-sides}
 use Rattle.rule_types.proofs.accepted.Accepted.side_laws.Goals as goal
 

@@ -1,4 +1,4 @@
-use Rattle.rule_syntax.specs.SeenRules.{seen_rules}
+use Rattle.rule_ast.specs.SeenRules.{seen_rules}
 use Rattle.rule_types.proofs.AcceptedStatements.{accepted-nulls, accepted-own, accepted-physical}
 use Rattle.rule_types.proofs.accepted.Accepted.statement_laws.Goals as goal
 

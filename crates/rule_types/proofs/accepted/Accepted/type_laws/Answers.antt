@@ -1,4 +1,4 @@
-use Rattle.rule_syntax.specs.SeenRules.{seen_rules}
+use Rattle.rule_ast.specs.SeenRules.{seen_rules}
 use Rattle.rule_types.proofs.AcceptedTypes.{accepted-types}
 use Rattle.rule_types.proofs.accepted.Accepted.type_laws.Goals as goal
 

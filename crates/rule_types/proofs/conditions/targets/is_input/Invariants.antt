@@ -1,6 +1,6 @@
 use Rattle.std.proofs.Common.{◌≡◌, drop}
 use Rattle.pr_value.specs.SymbolSets.{contains}
-use Rattle.rule_syntax.specs.Descs.{names_of}
+use Rattle.rule_ast.specs.Descs.{names_of}
 use Rattle.rule_types.proofs.conditions.targets.is_input.Given as goal
 
 -- the rest decides

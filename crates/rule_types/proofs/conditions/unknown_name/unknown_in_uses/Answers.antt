@@ -1,7 +1,7 @@
 use Rattle.std.proofs.Common.{◌≡◌, map, ap, ◌∙◌}
-use Rattle.rule_syntax.specs.Seen.{seen_helper}
-use Rattle.rule_syntax.specs.SeenRules.{seen_rules}
-use Rattle.rule_syntax.specs.Typing.{Context}
+use Rattle.rule_ast.specs.Seen.{seen_helper}
+use Rattle.rule_ast.specs.SeenRules.{seen_rules}
+use Rattle.rule_ast.specs.Typing.{Context}
 use Rattle.rule_types.specs.Declarations.{descs_of, helpers_of, param_names, params_of}
 use Rattle.rule_types.specs.SeenDeclarations.{seen_declaration}
 use Rattle.rule_types.proofs.UseLaws.{uses-same}

@@ -1,0 +1,7 @@
+use Rattle.std.proofs.Common.{◌≡◌, drop}
+use Rattle.pr_value.specs.SymbolSets.{contains}
+use Rattle.rule_ast.specs.Descs.{names_of}
+use Rattle.rule_ast.proofs.roles.is_input.Given as goal
+
+abbrev pub invariant-loop-input : goal.invariant-loop-input
+invariant-loop-input l = contains (names_of (drop l.input-index l.inputs)) l.desc ≡ contains (names_of (l.inputs)) l.desc

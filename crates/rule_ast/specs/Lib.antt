@@ -1,0 +1,11 @@
+pub mod CostForms
+pub mod CostGiven
+pub mod Descs
+pub mod Reads
+pub mod Roles
+pub mod Seen
+pub mod SeenRows
+pub mod SeenRules
+pub mod Spelled
+pub mod Syntax
+pub mod Typing

@@ -1,7 +1,0 @@
-use Rattle.std.proofs.Common.{◌≡◌, ◌++◌, flat_map, take}
-use Rattle.rule_syntax.specs.Seen.{seen_left_in}
-use Rattle.rule_syntax.specs.Descs.{stream_descs}
-use Rattle.rule_syntax.proofs.descs.+push_streams.Given as goal
-
-abbrev pub invariant-push_streams_of-loop-input : goal.invariant-push_streams_of-loop-input
-invariant-push_streams_of-loop-input l = l.out ≡ l.initial.out ++ flat_map (λ x. stream_descs (seen_left_in x)) (take l.input-index l.inputs)

@@ -1,6 +1,0 @@
-use Rattle.std.proofs.Common.{◌≡◌, ◌++◌, take}
-use Rattle.rule_syntax.specs.Descs.{names_of}
-use Rattle.rule_syntax.proofs.descs.push_inputs.Given as goal
-
-abbrev pub invariant-loop-input : goal.invariant-loop-input
-invariant-loop-input l = l.out ≡ l.initial.out ++ names_of (take l.input-index l.inputs)

@@ -1,7 +1,0 @@
-use Rattle.std.proofs.Common.{◌≡◌, drop}
-use Rattle.pr_value.specs.SymbolSets.{contains}
-use Rattle.rule_syntax.specs.Descs.{names_of}
-use Rattle.rule_syntax.proofs.roles.is_input.Given as goal
-
-abbrev pub invariant-loop-input : goal.invariant-loop-input
-invariant-loop-input l = contains (names_of (drop l.input-index l.inputs)) l.desc ≡ contains (names_of (l.inputs)) l.desc
