@@ -1,6 +1,6 @@
 use pr_value::Text;
-use rule_lex::tokens;
 use rule_ast::{Copied, Rules};
+use rule_lex::tokens;
 use rule_syntax::{print_rules, read_query, read_rules};
 use std::alloc::Global;
 use std::process::Abort;

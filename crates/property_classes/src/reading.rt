@@ -8,7 +8,10 @@ ghost use Rattle.rule_ast.specs.Seen.{seen_irule, seen_operator, seen_stmt, seen
 ghost use Rattle.rule_ast.specs.SeenRules.{seen_rules};
 
 use pr_value::{Items, Memory, Symbol, contains};
-use rule_ast::{IRule, ImplIn, Operator, ReadQuestion, Rules, Stmt, TRule, any_read, any_read_of_body, stream_descs};
+use rule_ast::{
+    IRule, ImplIn, Operator, ReadQuestion, Rules, Stmt, TRule, any_read, any_read_of_body,
+    stream_descs,
+};
 use std::alloc::Global;
 
 // A read of the property of one of these descriptors.
