@@ -57,7 +57,7 @@ fn is_reserved(s: &Symbol) -> bool
 }
 
 /// Whether it is a name that is not reserved.
-#[tactic(auto, unfolding(crate::specs::Spelled::is_free))]
+#[tactic(auto, unfolding(rule_ast::specs::Spelled::is_free))]
 pub fn is_free(s: &Symbol) -> bool
     ensures { result ≡ spelled.is_free s.now }
 {
