@@ -1,3 +1,4 @@
+mod FetchLaws
 mod Newest
 mod Parts
 mod StreamLaws

@@ -2,10 +2,11 @@
 use Rattle.std.specs.Prelude.{Bool, true, false, ◌==◌, if◌then◌else◌}
 use Rattle.std.proofs.Common.{◌≡◌, ℕ, ◌+◌, ◌<◌, ◌≤◌, List, [], ◌∷◌, ◌++◌, length, take, drop, Option, Some, None, refl, sym, ◌∙◌, ap, subst, arith}
 use Rattle.std.specs.Io.KnownBytes.{Appends, Keeps, Consumes, IsAtEnd}
-use Rattle.std.proofs.lemmas.List.{take-append-drop, append_assoc, append-nil, length-append, take_all, nil_from_length}
+use Rattle.std.proofs.lemmas.List.{take-append-drop, append_assoc, append-nil, length-append, length-take, take_all, nil_from_length}
 use Rattle.std.proofs.lemmas.Bool.{eqb-true}
 use Rattle.std.proofs.Math.Seq.{take-append_seam}
 use Rattle.pr_outside.specs.Streams.{IsReadUpTo, AppendsSome}
+use Rattle.pr_outside.specs.Fetched.{AreLeft}
 
 appends_more : (a b c : Option (List ℕ)) (xs ys : List ℕ) → Appends a b xs → Appends b c ys → Appends a c (xs ++ ys)
 appends_more None b c xs ys p q = tt
@@ -85,3 +86,8 @@ empty_is xs e = nil_from_length xs (eqb-true (length xs) 0 e)
 pub appended : (items more new : List ℕ) (b : Bool) → b ≡ true → new ≡ (if b then items ++ more else items) → new ≡ items ++ more
 appended items more new true t e = e
 appended items more new false t e = cc t
+
+-- bytes that are no more than may be are all that was left
+pub read_left : (a : Option (List ℕ)) (most : ℕ) (xs : List ℕ) → length xs ≤ most → IsReadUpTo a most xs → AreLeft a xs
+read_left None most xs few is = tt
+read_left (Some left) most xs few is = let long : length xs ≡ length (take (most + 1) left) = ap length is in let cut = length-take (most + 1) left in is ∙ take_all (most + 1) left (omega (arith, few, long, cut))

@@ -6,4 +6,5 @@ pub mod Room
 pub mod ShelfState
 pub mod SinkState
 pub mod Streams
+pub mod SureState
 pub mod Written

@@ -132,6 +132,8 @@ impl Sink for MemSink {
 
     ghost faults = { λ s. s.faults };
 
+    ghost puts = { λ s. s.calls };
+
     /// `Failed` comes exactly at a listed call, and counts one fault.
     /// Each call is counted, also one that answers `Memory`. The count of calls stands still at 2^64 - 1.
     fn put(&mut self, _alloc: Global, piece: &[u8]) -> Result<(), PutError>
@@ -142,7 +144,7 @@ impl Sink for MemSink {
         ensures memory { IsErrOf result PutError.Memory → Some self.new.written ≡ Some self.old.written }
         ensures stays { result ≢ Err PutError.Failed → self.new.faults ≡ self.old.faults }
         ensures fault { IsErrOf result PutError.Failed → self.new.faults ≡ counts.one_more self.old.faults }
-        ensures calls { self.new.calls ≡ counts.one_more self.old.calls }
+        ensures numbered { self.new.calls ≡ counts.one_more self.old.calls }
         ensures failing { self.new.failing ≡ self.old.failing }
         ensures answers { result ≢ Err PutError.Memory → result ≡ put_answer (next_takes self.old) }
         ensures sure { IsErrOf result PutError.Memory → next_takes self.old ≡ None }

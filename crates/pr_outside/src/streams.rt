@@ -1,7 +1,7 @@
 // Whole reads and writes, over any reader and any writer.
 ghost use Rattle.std.specs.Prelude.{◌≡◌, ℕ, ◌≤◌, [], length, take, OnOk, OnErr};
 ghost use Rattle.std.specs.Io.KnownBytes.{Appends};
-ghost use Rattle.pr_outside.specs.Streams.{IsReadUpTo, AppendsSome};
+ghost use Rattle.pr_outside.specs.Streams.{IsReadUpTo, TakesUpTo, AppendsSome};
 
 use std::io;
 use std::io::{ErrorKind, Read, Write};
@@ -34,7 +34,9 @@ pub fn read_up_to<R: Read>(
     bytes: &mut Vec<u8>,
 ) -> Result<(), ReadError>
     requires { bytes.old.items ≡ [] }
-    ensures { OnOk result (IsReadUpTo (R.remaining reader.old) most bytes.new.items) }
+    ensures all { OnOk result (IsReadUpTo (R.remaining reader.old) most bytes.new.items) }
+    ensures taken { OnOk result
+        (TakesUpTo (R.remaining reader.old) (R.remaining reader.new) most bytes.new.items) }
 {
     let mut piece = [0u8; PIECE];
     while bytes.len() <= most {

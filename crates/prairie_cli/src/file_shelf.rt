@@ -1,6 +1,6 @@
-ghost use Rattle.std.specs.Prelude.{◌≡◌, None, false, []};
+ghost use Rattle.std.specs.Prelude.{◌≡◌, None, false};
 
-use pr_outside::{Bytes, FetchError, Name, ReadError, Shelf, read_up_to};
+use pr_outside::{Bytes, FetchError, Fetched, Name, Shelf, fetch_reader, one_more};
 use std::alloc::Global;
 use std::fs;
 use std::rt::Files;
@@ -37,30 +37,14 @@ impl<'a, R: Files> Shelf for FileShelf<'a, R> {
 
     fn fetch(&mut self, alloc: Global, name: &Name, most: usize) -> Result<Bytes, FetchError> {
         let faults = self.faults;
-        let mut bytes = Vec::new(alloc);
-        let outcome = read_file(self.rt, name, most, &mut bytes);
-        self.taken = bytes.len();
-        match outcome {
-            Ok(()) if bytes.len() > most => Err(FetchError::TooLong),
-            Ok(()) => Ok(Bytes::from_vec(bytes)),
-            Err(ReadError::Memory) => Err(FetchError::Memory),
-            Err(ReadError::Failed) => {
-                self.faults = faults.saturating_add(1);
-                Err(FetchError::Failed)
-            }
+        let fetched = match fs::open(self.rt, name.as_str()) {
+            Ok(mut file) => fetch_reader(alloc, &mut file, most),
+            Err(error) => Fetched::failed(error),
+        };
+        self.taken = fetched.taken;
+        if let Err(FetchError::Failed) = fetched.answer {
+            self.faults = one_more(faults);
         }
+        fetched.answer
     }
-}
-
-/// Takes the bytes of a file, at most one more than `most`.
-fn read_file<R: Files>(
-    rt: &R,
-    name: &Name,
-    most: usize,
-    bytes: &mut Vec<u8>,
-) -> Result<(), ReadError>
-    requires { bytes.old.items ≡ [] }
-{
-    let mut file = fs::open(rt, name.as_str())?;
-    read_up_to(&mut file, most, bytes)
 }

@@ -128,12 +128,13 @@ fn came_over(
 ) -> Result<Vec<u8>, Trouble> {
     let mut sink = sink_of(alloc, row, table)?;
     let status = run(alloc, words, shelf, &mut sink);
-    line(alloc, status as u64, sink.bytes())
+    line(alloc, status.number() as u64, sink.bytes())
 }
 
-/// A sink, which fails where the row says so.
+/// A sink, which fails where the row says so, and else at a second put.
 fn sink_of(alloc: Global, row: &Json, table: &Json) -> Result<MemSink, Trouble> {
     let mut sink = MemSink::new(alloc);
+    sink.fail_at(2, 0)?;
     if let Some(taken) = said_number(row, table, "put_fails_after")? {
         sink.fail_at(1, taken as usize)?;
     }
@@ -148,12 +149,31 @@ fn shelf_of(alloc: Global, row: &Json, table: &Json, texts: &Texts) -> Result<Me
             hold(alloc, name, json, texts, &mut shelf)?;
         }
     }
+    if let Some(files) = said(row, table, "files") {
+        hold_all(alloc, files, texts, &mut shelf)?;
+    }
     if let Some(call) = said_number(row, table, "fetch_fails")? {
         if 1 <= call && call < u64::MAX {
             shelf.fail_at(call)?;
         }
     }
     Ok(shelf)
+}
+
+/// Holds texts under the names that a row gives them.
+fn hold_all(
+    alloc: Global,
+    files: &Json,
+    texts: &Texts,
+    shelf: &mut MemShelf,
+) -> Result<(), Trouble> {
+    let Some(files) = files.as_object() else {
+        return Err(Trouble::Misshapen("files"));
+    };
+    for (name, json) in files.iter() {
+        hold(alloc, name.as_str(), json, texts, shelf)?;
+    }
+    Ok(())
 }
 
 fn hold(

@@ -1,6 +1,6 @@
 -- The causes of answers exclude each other.
-use Rattle.std.proofs.Common.{◌≡◌, ℕ, ◌<◌, List, [], ◌∷◌, map, Option, Some, None, refl, ap, sym, ◌∙◌, subst, arith, inl, inr}
-use Rattle.std.specs.Prelude.{◌⊎◌, ◌≢◌, codes}
+use Rattle.std.proofs.Common.{◌≡◌, ℕ, ◌<◌, List, [], map, Option, Some, None, refl, ap, sym, ◌∙◌, subst, arith, inl, inr}
+use Rattle.std.specs.Prelude.{◌⊎◌, ◌≢◌}
 use Rattle.pr_outside.specs.Counts.{last_count, Still}
 use Rattle.pr_outside.specs.Files.{Files}
 use Rattle.pr_value.specs.declared.token.Token.{Token}
@@ -21,11 +21,15 @@ use Rattle.prairie_top.specs.declared.status.Status.TheVariants as status
 use Rattle.query_tree.specs.Refusals.{refusal_of}
 use Rattle.prairie_top.specs.Messages.{no_plan_text, usage_text, memory_text}
 use Rattle.prairie_top.specs.Reading.{HasTokens, HasNoTokens, Grammar, Reads, IsRefusedText, no_tokens, unread, refused, IsRefusedRules, IsRefusedQuery, rules_grammar, query_grammar, ReadsCatalog, IsRefusedCatalog}
-use Rattle.prairie_top.specs.Run.{Fetches, Puts, Names, Command, plan, Means, ArePlanWords}
+use Rattle.prairie_top.specs.Run.{Fetches, Puts}
+use Rattle.prairie_top.specs.Tasks.{Task, plan}
+use Rattle.prairie_words.specs.Commands.{Word, Names}
+use Rattle.prairie_words.specs.Laws.{OneMeaning}
 use Rattle.prairie_top.specs.Sources.{AllFetched, IsRead, Chain}
 use Rattle.prairie_top.specs.Sources as sources
-use Rattle.prairie_top.specs.Outcome.{Outcome, planned, unplanned, IsOutcome, outcome_status, outcome_text, rules_source, catalog_source, query_source, Decides, CatalogComes, RulesComes, PlanComes, CommandComes, Comes, unknown, wanting, known, PutsAll, PutsOnce}
+use Rattle.prairie_top.specs.Outcome.{Outcome, planned, unplanned, IsOutcome, outcome_status, outcome_text, rules_source, catalog_source, query_source, Decides, CatalogComes, RulesComes, PlanComes, TaskComes, Comes, unknown, wanting, known, PutsAll, PutsOnce}
 use Rattle.prairie_top.specs.Laws.{OneAnswer, OneText, HasOneText, EndsPlanned, Complete, NeverFails, NeverUnwritten}
+use Rattle.prairie_top.proofs.TaskLaws.{one_task}
 use Rattle.prairie_top.proofs.ChainLaws.{some_is, Settles, One, IsClear, chain_settles, chain_one, chain_complete, chain_sure, chain_text}
 
 -- what the layers below say of texts
@@ -35,6 +39,7 @@ pub record Laws : Type 0 where
   pub catalogs : OneCatalog
   pub rules : DistinctRules
   pub queries : DistinctQueries
+  pub words : OneMeaning
 
 -- ---- texts read in one way
 
@@ -160,9 +165,9 @@ catalog_not_refused c (WrongType name) bytes is why = why
 
 -- a best plan and the lack of one exclude each other
 pub one_outcome : (r : Rules) (c : Catalog) (q : Query) (o p : Outcome) → IsOutcome r c q o → IsOutcome r c q p → outcome_status o ≡ outcome_status p
-one_outcome r c q (planned x) (planned y) h k = refl
-one_outcome r c q (planned x) unplanned h k = absurd (k x h.0)
-one_outcome r c q unplanned (planned y) h k = absurd (h y k.0)
+one_outcome r c q (planned x t) (planned y u) h k = refl
+one_outcome r c q (planned x t) unplanned h k = absurd (k x (h.0).0)
+one_outcome r c q unplanned (planned y u) h k = absurd (h y (k.0).0)
 one_outcome r c q unplanned unplanned h k = refl
 
 module _ (laws : Laws) (names : Names) (fetches : Fetches) where
@@ -214,37 +219,25 @@ module _ (laws : Laws) (names : Names) (fetches : Fetches) where
 
 -- ---- a run
 
-same_names : (words : List (List ℕ)) (n m : Names) → ArePlanWords words n → ArePlanWords words m → n ≡ m
-same_names words n m a b =
-    let e : codes "plan" ∷ n.rules ∷ n.catalog ∷ n.query ∷ [] ≡ codes "plan" ∷ m.rules ∷ m.catalog ∷ m.query ∷ [] = sym a.listed ∙ b.listed in
-    let rules : n.rules ≡ m.rules = cc e in
-    let catalog : n.catalog ≡ m.catalog = cc e in
-    let query : n.query ≡ m.query = cc e in
-    λ i. record { rules = rules i; catalog = catalog i; query = query i }
-
--- words mean one command
-same_command : (words : List (List ℕ)) (a b : Command) → Means words a → Means words b → a ≡ b
-same_command words (plan n) (plan m) is is' = ap plan (same_names words n m is is')
-
-one_command : Laws → (command : Command) (fetches : Fetches) (files : Files) → fetches.held ≡ Some files → fetches.before < last_count → One (CommandComes command fetches) (CommandComes command fetches)
-one_command laws (plan names) fetches files tells below = one_plan laws names fetches files tells below
+one_of_task : Laws → (task : Task) (fetches : Fetches) (files : Files) → fetches.held ≡ Some files → fetches.before < last_count → One (TaskComes task fetches) (TaskComes task fetches)
+one_of_task laws (plan names limits) fetches files tells below = one_plan laws names fetches files tells below
 
 pub one_answer : Laws → OneAnswer
 one_answer laws words fetches files one other x y tells below (unknown none all is e) (unknown none' all' is' e') = inl (is ∙ sym is')
 one_answer laws words fetches files one other x y tells below (unknown none all is e) (wanting is' e') = inr (inr is')
-one_answer laws words fetches files one other x y tells below (unknown none all is e) (known command means comes) = absurd (none command means)
+one_answer laws words fetches files one other x y tells below (unknown none all is e) (known task means comes) = absurd (none task means)
 one_answer laws words fetches files one other x y tells below (wanting is e) k = inr (inl is)
-one_answer laws words fetches files one other x y tells below (known command means comes) (unknown none all is e) = absurd (none command means)
-one_answer laws words fetches files one other x y tells below (known command means comes) (wanting is e) = inr (inr is)
-one_answer laws words fetches files one other x y tells below (known command means comes) (known command' means' comes') =
-    inl (one_command laws command fetches files tells below one other x y comes (subst (λ (z : Command). CommandComes z fetches other y) (same_command words command' command means' means) comes'))
+one_answer laws words fetches files one other x y tells below (known task means comes) (unknown none all is e) = absurd (none task means)
+one_answer laws words fetches files one other x y tells below (known task means comes) (wanting is e) = inr (inr is)
+one_answer laws words fetches files one other x y tells below (known task means comes) (known task' means' comes') =
+    inl (one_of_task laws task fetches files tells below one other x y comes (subst (λ (z : Task). TaskComes z fetches other y) (one_task laws.words words task' task means' means) comes'))
 
 -- ---- texts that leave no choice
 
 decides_text : (r : Rules) (c : Catalog) (q : Query) (fetches : Fetches) (text : List ℕ) → Decides r c q fetches status.NoPlan text → text ≡ no_plan_text
 decides_text r c q fetches text h = by_outcome h.outcome h.status h.is where
-  by_outcome : (o : Outcome) → status.NoPlan ≡ outcome_status o → text ≡ outcome_text r o → text ≡ no_plan_text
-  by_outcome (planned p) is e = absurd (cc is)
+  by_outcome : (o : Outcome) → status.NoPlan ≡ outcome_status o → text ≡ outcome_text o → text ≡ no_plan_text
+  by_outcome (planned p t) is e = absurd (cc is)
   by_outcome unplanned is e = e
 
 no_plan_says : (names : Names) (fetches : Fetches) (text : List ℕ) → PlanComes names fetches status.NoPlan text → text ≡ no_plan_text
@@ -254,14 +247,13 @@ no_plan_says names fetches =
     chain_text (query_source r c names.query) fetches (λ q. Decides r c q fetches) status.NoPlan no_plan_text (λ e. cc e) (λ e. cc e) (λ q.
     decides_text r c q fetches)))
 
--- a command comes to neither of the answers that are no command's
-command_text : (command : Command) (fetches : Fetches) (text : List ℕ) → CommandComes command fetches status.NoPlan text → text ≡ no_plan_text
-command_text (plan names) fetches text h = no_plan_says names fetches text h
+task_text : (task : Task) (fetches : Fetches) (text : List ℕ) → TaskComes task fetches status.NoPlan text → text ≡ no_plan_text
+task_text (plan names limits) fetches text h = no_plan_says names fetches text h
 
 decides_status : (r : Rules) (c : Catalog) (q : Query) (fetches : Fetches) (came : Status) (text : List ℕ) → Decides r c q fetches came text → came ≢ status.Usage × came ≢ status.Memory × came ≢ status.WriteFault
 decides_status r c q fetches came text h = by_outcome h.outcome h.status where
   by_outcome : (o : Outcome) → came ≡ outcome_status o → came ≢ status.Usage × came ≢ status.Memory × came ≢ status.WriteFault
-  by_outcome (planned p) is = ((λ e. let z : status.Done ≡ status.Usage = sym is ∙ e in cc z), (λ e. let z : status.Done ≡ status.Memory = sym is ∙ e in cc z), (λ e. let z : status.Done ≡ status.WriteFault = sym is ∙ e in cc z))
+  by_outcome (planned p t) is = ((λ e. let z : status.Done ≡ status.Usage = sym is ∙ e in cc z), (λ e. let z : status.Done ≡ status.Memory = sym is ∙ e in cc z), (λ e. let z : status.Done ≡ status.WriteFault = sym is ∙ e in cc z))
   by_outcome unplanned is = ((λ e. let z : status.NoPlan ≡ status.Usage = sym is ∙ e in cc z), (λ e. let z : status.NoPlan ≡ status.Memory = sym is ∙ e in cc z), (λ e. let z : status.NoPlan ≡ status.WriteFault = sym is ∙ e in cc z))
 
 -- an answer to a command is none of these
@@ -276,17 +268,17 @@ chain_own s fetches Next own came text (sources.failed fails is e) =
     ((λ e. let z : status.ReadFault ≡ status.Usage = sym is ∙ e in cc z), (λ e. let z : status.ReadFault ≡ status.Memory = sym is ∙ e in cc z), (λ e. let z : status.ReadFault ≡ status.WriteFault = sym is ∙ e in cc z))
 chain_own s fetches Next own came text (sources.read x told next) = own x came text next
 
-command_own : (command : Command) (fetches : Fetches) (came : Status) (text : List ℕ) → CommandComes command fetches came text → IsOwn came
-command_own (plan names) fetches =
+task_own : (task : Task) (fetches : Fetches) (came : Status) (text : List ℕ) → TaskComes task fetches came text → IsOwn came
+task_own (plan names limits) fetches =
     chain_own (rules_source names.rules) fetches (λ r. RulesComes r names fetches) (λ r.
     chain_own (catalog_source names.catalog) fetches (λ c. CatalogComes r c names fetches) (λ c.
     chain_own (query_source r c names.query) fetches (λ q. Decides r c q fetches) (λ q. decides_status r c q fetches)))
 
 -- no answer is a write fault before it is put
-pub no_write_fault : (words : List (List ℕ)) (fetches : Fetches) (came : Status) (text : List ℕ) → Comes words fetches came text → came ≢ status.WriteFault
+pub no_write_fault : (words : List Word) (fetches : Fetches) (came : Status) (text : List ℕ) → Comes words fetches came text → came ≢ status.WriteFault
 no_write_fault words fetches came text (unknown none all is e) f = let z : status.Usage ≡ status.WriteFault = sym is ∙ f in cc z
 no_write_fault words fetches came text (wanting is e) f = let z : status.Memory ≡ status.WriteFault = sym is ∙ f in cc z
-no_write_fault words fetches came text (known command means comes) f = (command_own command fetches came text comes).2 f
+no_write_fault words fetches came text (known task means comes) f = (task_own task fetches came text comes).2 f
 
 -- the one text of usage, want of memory and no plan
 text_of : Status → List ℕ
@@ -294,17 +286,17 @@ text_of status.Usage = usage_text
 text_of status.NoPlan = no_plan_text
 text_of _ = memory_text
 
-says : (words : List (List ℕ)) (fetches : Fetches) (came : Status) (text : List ℕ) → HasOneText came → Comes words fetches came text → text ≡ text_of came
+says : (words : List Word) (fetches : Fetches) (came : Status) (text : List ℕ) → HasOneText came → Comes words fetches came text → text ≡ text_of came
 unfolding text_of
 says words fetches status.Usage text h (unknown none all is e) = e
 says words fetches status.Usage text h (wanting is e) = absurd (cc is)
-says words fetches status.Usage text h (known command means comes) = absurd ((command_own command fetches status.Usage text comes).0 refl)
+says words fetches status.Usage text h (known task means comes) = absurd ((task_own task fetches status.Usage text comes).0 refl)
 says words fetches status.NoPlan text h (unknown none all is e) = absurd (cc is)
 says words fetches status.NoPlan text h (wanting is e) = absurd (cc is)
-says words fetches status.NoPlan text h (known command means comes) = command_text command fetches text comes
+says words fetches status.NoPlan text h (known task means comes) = task_text task fetches text comes
 says words fetches status.Memory text h (unknown none all is e) = absurd (cc is)
 says words fetches status.Memory text h (wanting is e) = e
-says words fetches status.Memory text h (known command means comes) = absurd ((command_own command fetches status.Memory text comes).1 refl)
+says words fetches status.Memory text h (known task means comes) = absurd ((task_own task fetches status.Memory text comes).1 refl)
 says words fetches status.Done text h k = absurd h
 says words fetches status.Refused text h k = absurd h
 says words fetches status.Limit text h k = absurd h
@@ -327,7 +319,7 @@ never_fails names fetches files text tells is rules catalog query =
       decides_no_fault : (r : Rules) (c : Catalog) (q : Query) (t : List ℕ) → Decides r c q fetches status.ReadFault t → ⊥
       decides_no_fault r c q t h = by_outcome h.outcome h.status where
         by_outcome : (o : Outcome) → status.ReadFault ≡ outcome_status o → ⊥
-        by_outcome (planned p) e = cc e
+        by_outcome (planned p u) e = cc e
         by_outcome unplanned e = cc e
 
 pub never_unwritten : NeverUnwritten
@@ -349,7 +341,7 @@ put_whole puts came text status.ReadFault still h = inr h
 put_whole puts came text status.CertRefused still h = inr h
 
 pub complete : Laws → Complete
-complete laws words names fetches puts files r c q ended tells means rules catalog query still whole ends =
+complete laws words names limits fetches puts files r c q ended tells means rules catalog query still whole ends =
     elim (put_whole puts ends.came ends.text ended whole ends.put) [
       | inl memory ↦ inl memory
       | inr put ↦ by_cause ends.came ends.text put ends.comes
@@ -358,9 +350,9 @@ complete laws words names fetches puts files r c q ended tells means rules catal
       decided came text put h = inr (h.outcome, h.comes, put.0 ∙ h.status, subst (λ (t : List ℕ). PutsAll puts t) h.is put.1)
 
       by_cause : (came : Status) (text : List ℕ) → (ended ≡ came) × PutsAll puts text → Comes words fetches came text → EndsPlanned r c q puts ended
-      by_cause came text put (unknown none all is e) = absurd (none (plan names) means)
+      by_cause came text put (unknown none all is e) = absurd (none (plan names limits) means)
       by_cause came text put (wanting is e) = inl (put.0 ∙ is)
-      by_cause came text put (known command means' comes) =
+      by_cause came text put (known task means' comes) =
           decided came text put (
           plan_complete laws names fetches files tells still r c q rules catalog query came text (
-          subst (λ (z : Command). CommandComes z fetches came text) (same_command words command (plan names) means' means) comes))
+          subst (λ (z : Task). TaskComes z fetches came text) (one_task laws.words words task (plan names limits) means' means) comes))

@@ -3,7 +3,7 @@ pub mod Messages
 pub mod Outcome
 pub mod Reading
 pub mod Run
-pub mod SeenNames
 pub mod Sources
 pub mod Stages
 pub mod Statuses
+pub mod Tasks

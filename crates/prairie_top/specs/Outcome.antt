@@ -7,32 +7,35 @@ use Rattle.plan_form.specs.Plans.{Plan, Best, NoPlan}
 use Rattle.plan_form.specs.PlanText.{plan_text}
 use Rattle.query_tree.specs.Query.{query_tree}
 use Rattle.rule_ast.specs.Syntax.{Rules, Query}
+use Rattle.prairie_words.specs.Commands.{Word, Names}
+use Rattle.prairie_words.specs.Meaning.{Means}
 use Rattle.prairie_top.specs.Messages.{usage_text, no_plan_text, memory_text}
 use Rattle.prairie_top.specs.Reading.{Reads, IsRefusedText, rules_grammar, query_grammar, ReadsCatalog, IsRefusedCatalog}
-use Rattle.prairie_top.specs.Run.{Fetches, Puts, Names, Command, plan, Means}
+use Rattle.prairie_top.specs.Run.{Fetches, Puts}
 use Rattle.prairie_top.specs.Sources.{Source, AllFetched, Chain}
+use Rattle.prairie_top.specs.Tasks.{Task, plan, command_of}
 use Rattle.prairie_top.specs.declared.status.Status.{Status}
 use Rattle.prairie_top.specs.declared.status.Status.TheVariants as status
 
 -- ---- what rules, a catalog and a query come to
 
--- a plan, or that there is none
+-- a plan and its text, or that there is none
 pub data Outcome : Type 0 where
-  planned : Plan → Outcome
+  planned : Plan → List ℕ → Outcome
   unplanned : Outcome
 
 -- the plan is a best one of the query's tree, or no plan implements that
 abbrev pub IsOutcome : Rules → Catalog → Query → Outcome → Type 0
-IsOutcome r c q (planned p) = Best r c (query_tree r c q) p
+IsOutcome r c q (planned p text) = Best r c (query_tree r c q) p × (text ≡ plan_text r p)
 IsOutcome r c q unplanned = NoPlan r c (query_tree r c q)
 
 abbrev pub outcome_status : Outcome → Status
-outcome_status (planned p) = status.Done
+outcome_status (planned p text) = status.Done
 outcome_status unplanned = status.NoPlan
 
-abbrev pub outcome_text : Rules → Outcome → List ℕ
-outcome_text r (planned p) = plan_text r p
-outcome_text r unplanned = no_plan_text
+abbrev pub outcome_text : Outcome → List ℕ
+outcome_text (planned p text) = text
+outcome_text unplanned = no_plan_text
 
 -- ---- the texts of a command
 
@@ -79,7 +82,7 @@ pub record Decides (r : Rules) (c : Catalog) (q : Query) (fetches : Fetches) (ca
   pub comes : IsOutcome r c q outcome
   pub fetched : AllFetched fetches
   pub status : came ≡ outcome_status outcome
-  pub is : text ≡ outcome_text r outcome
+  pub is : text ≡ outcome_text outcome
 
 -- what `plan` comes to under rules and a catalog, once they are read: it takes the query, and comes
 -- to the outcome
@@ -96,16 +99,18 @@ RulesComes r names fetches =
 abbrev pub PlanComes : Names → Fetches → Status → List ℕ → Type 0
 PlanComes names fetches = Chain (rules_source names.rules) fetches (λ r. RulesComes r names fetches)
 
-abbrev pub CommandComes : Command → Fetches → Status → List ℕ → Type 0
-CommandComes (plan names) = PlanComes names
+-- the limits bound a memo and the goals over it, so they bound no search over one tree alone
+abbrev pub TaskComes : Task → Fetches → Status → List ℕ → Type 0
+TaskComes (plan names limits) = PlanComes names
 
--- the words mean no command; or memory is wanting; or they mean a command that comes to this answer
-pub data Comes (words : List (List ℕ)) (fetches : Fetches) (came : Status)
+-- the words mean no command that is built; or memory is wanting; or they mean one that comes to
+-- this answer
+pub data Comes (words : List Word) (fetches : Fetches) (came : Status)
     (text : List ℕ) : Type 0 where
-  unknown : ((command : Command) → Means words command → ⊥) → AllFetched fetches
+  unknown : ((task : Task) → Means words (command_of task) → ⊥) → AllFetched fetches
       → came ≡ status.Usage → text ≡ usage_text → Comes words fetches came text
   wanting : came ≡ status.Memory → text ≡ memory_text → Comes words fetches came text
-  known : (command : Command) → Means words command → CommandComes command fetches came text
+  known : (task : Task) → Means words (command_of task) → TaskComes task fetches came text
       → Comes words fetches came text
 
 -- ---- a run
@@ -125,7 +130,7 @@ PutsOnce puts came text status.Memory =
 PutsOnce puts came text ended = (ended ≡ came) × PutsAll puts text
 
 -- a run of these words over this shelf and this sink may end so
-pub record Ends (words : List (List ℕ)) (fetches : Fetches) (puts : Puts)
+pub record Ends (words : List Word) (fetches : Fetches) (puts : Puts)
     (ended : Status) : Type 0 where
   pub came : Status
   pub text : List ℕ

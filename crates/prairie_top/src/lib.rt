@@ -3,13 +3,12 @@
 
 mod laws;
 mod messages;
-mod names;
 mod reading;
 mod source;
 mod stage;
 mod status;
+mod task;
 mod top;
-mod words;
 
 pub use laws::{outcome_laws, printing_laws};
 pub use status::Status;

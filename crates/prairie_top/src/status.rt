@@ -1,5 +1,8 @@
 ghost use Rattle.std.specs.Prelude.{◌≡◌};
+ghost use Rattle.std.specs.Process.{exit_status};
 ghost use Rattle.prairie_top.specs.Statuses.{number};
+
+use std::process::ExitCode;
 
 /// How a run ends.
 #[derive(Clone, Copy, PartialEq, Eq)]
@@ -46,5 +49,12 @@ impl Status {
             Status::Memory => 9,
             Status::CertRefused => 10,
         }
+    }
+
+    /// The program's exit status, for its `main` to end with.
+    pub fn exit_code(self) -> ExitCode
+        ensures { exit_status result ≡ number self }
+    {
+        ExitCode::from(self.number())
     }
 }

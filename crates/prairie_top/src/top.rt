@@ -1,25 +1,27 @@
 ghost use Rattle.std.specs.Prelude.{◌≡◌, ◌≢◌, ◌≤◌, [], IfOk};
-ghost use Rattle.prairie_top.specs.Outcome.{PlanComes, RulesComes, CatalogComes, Comes, PutsOnce, Ends};
+ghost use Rattle.pr_outside.specs.Counts.{one_more};
+ghost use Rattle.prairie_top.specs.Outcome.{PlanComes, RulesComes, CatalogComes, TaskComes, Comes, PutsOnce, Ends};
+ghost use Rattle.prairie_top.specs.Tasks.{seen_task};
 ghost use Rattle.descriptor_types.specs.Labels.{seen_tree};
 ghost use Rattle.property_classes.specs.Classes.{classes_of};
 ghost use Rattle.query_tree.specs.Trees.{IsTree};
 ghost use Rattle.rule_ast.specs.SeenRules.{seen_rules};
-ghost use Rattle.prairie_top.specs.SeenNames.{seen_names};
+ghost use Rattle.prairie_words.specs.Seen.{seen_names};
 ghost use Rattle.prairie_top.specs.Stages.{IsDecided, IsStopped};
 
 use crate::messages::{push_fault, push_refusal};
-use crate::names::Names;
 use crate::reading::{Built, Under};
 use crate::source::{CATALOG_LIMIT, TEXT_LIMIT, source};
 use crate::stage::Stop;
 use crate::status::Status;
-use crate::words::plan_words;
+use crate::task::{Task, task_of};
 use catalog::Catalog;
 use descriptor_types::Tree;
 use plan_form::plan_text;
 use plan_search::best_plan;
 use pr_outside::{Name, PutError, Shelf, Sink};
 use pr_value::{Memory, Text};
+use prairie_words::Names;
 use property_classes::Classes;
 use rule_types::Accepted;
 use std::alloc::Global;
@@ -50,6 +52,7 @@ pub fn run<F: Shelf, K: Sink>(alloc: Global, words: &[Name], shelf: &mut F, out:
     ensures sure { F.sure shelf.new ≡ F.sure shelf.old }
     ensures counted { F.faults shelf.old ≤ F.faults shelf.new }
     ensures counted_puts { K.faults out.old ≤ K.faults out.new }
+    ensures once { K.puts out.new ≡ one_more (K.puts out.old) }
 {
     let mut text = Text::new(alloc);
     match answer(alloc, words, shelf, &mut text) {
@@ -62,6 +65,7 @@ pub fn run<F: Shelf, K: Sink>(alloc: Global, words: &[Name], shelf: &mut F, out:
 fn put<K: Sink>(alloc: Global, came: Status, text: &[u8], out: &mut K) -> Status
     requires { came ≢ Status.WriteFault }
     ensures counted { K.faults out.old ≤ K.faults out.new }
+    ensures once { K.puts out.new ≡ one_more (K.puts out.old) }
     ensures put { PutsOnce
         (record {
           written_before = K.written out.old;
@@ -98,9 +102,9 @@ fn answer<F: Shelf>(
           after = F.faults shelf.new;
         }) came text.new) }
 {
-    match plan_words(words) {
-        Some(names) => {
-            let came = planned(alloc, &names, shelf, text)?;
+    match task_of(words) {
+        Some(task) => {
+            let came = task_answer(alloc, &task, shelf, text)?;
             Ok(came)
         }
         None => {
@@ -108,6 +112,29 @@ fn answer<F: Shelf>(
             Ok(Status::Usage)
         }
     }
+}
+
+/// What a task comes to.
+fn task_answer<F: Shelf>(
+    alloc: Global,
+    task: &Task<'_>,
+    shelf: &mut F,
+    text: &mut Text,
+) -> Result<Status, Memory>
+    requires empty { text.old ≡ [] }
+    ensures held { F.held shelf.new ≡ F.held shelf.old }
+    ensures sure { F.sure shelf.new ≡ F.sure shelf.old }
+    ensures counted { F.faults shelf.old ≤ F.faults shelf.new }
+    ensures comes { IfOk result
+        (λ came. TaskComes (seen_task task.now)
+        (record {
+          held = F.held shelf.old;
+          sure = F.sure shelf.old;
+          before = F.faults shelf.old;
+          after = F.faults shelf.new;
+        }) came text.new) }
+{
+    planned(alloc, &task.names, shelf, text)
 }
 
 /// The answer where a text is not had.

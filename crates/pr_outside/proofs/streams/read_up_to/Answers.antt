@@ -11,8 +11,8 @@ loop-piece-init g c =
     let none : length c.args.bytes.now.items ≡ 0 = ap length c.requires in
     record { taken = subst (λ (w : List ℕ). Consumes start start w) (sym c.requires) (consumes_none start); few = omega (arith, none); room = refl }
 
-pub returns-then-read-eq0 : goal.returns-then-read-eq0
-returns-then-read-eq0 g c =
+pub returns-then-read-eq0-clause-all : goal.returns-then-read-eq0-clause-all
+returns-then-read-eq0-clause-all g c =
     let test = c.loop-piece-test.true in
     let len = c.len.ensures in
     let few : length c.loop-piece.bytes.items ≤ c.args.most = omega (arith, test, len) in
@@ -45,8 +45,8 @@ loop-piece-preserved g c =
       room = omega (arith, room, rest, dropped, buf);
     }
 
-pub returns : goal.returns
-returns g c =
+pub returns-clause-all : goal.returns-clause-all
+returns-clause-all g c =
     let test = c.loop-piece-test.false in
     let len = c.len.ensures in
     let few = c.loop-piece.invariant.few in

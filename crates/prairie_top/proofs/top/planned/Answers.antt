@@ -3,7 +3,7 @@ use Rattle.rule_types.specs.declared.accepted.Accepted.{Accepted}
 use Rattle.prairie_top.specs.Outcome.{RulesComes, PlanComes, rules_source}
 use Rattle.prairie_top.specs.Reading.{Reads, rules_grammar}
 use Rattle.prairie_top.specs.Run.{Fetches}
-use Rattle.prairie_top.specs.SeenNames.{seen_names}
+use Rattle.prairie_words.specs.Seen.{seen_names}
 use Rattle.prairie_top.specs.Stages.{IsStopped}
 use Rattle.prairie_top.specs.declared.status.Status.{Status}
 use Rattle.prairie_top.proofs.ChainLaws.{read_next, stopped_chain}

@@ -6,7 +6,7 @@ use Rattle.rule_ast.specs.SeenRules.{seen_rules}
 use Rattle.prairie_top.specs.Outcome.{CatalogComes, Decides, query_source}
 use Rattle.prairie_top.specs.Reading.{Reads, query_grammar}
 use Rattle.prairie_top.specs.Run.{Fetches}
-use Rattle.prairie_top.specs.SeenNames.{seen_names}
+use Rattle.prairie_words.specs.Seen.{seen_names}
 use Rattle.prairie_top.specs.Sources.{read}
 use Rattle.prairie_top.specs.Stages.{IsStopped, IsDecided}
 use Rattle.prairie_top.specs.declared.reading.Built.{Built}

@@ -2,7 +2,7 @@ use Rattle.rule_ast.specs.SeenRules.{seen_rules}
 use Rattle.prairie_top.specs.Outcome.{CatalogComes, RulesComes, catalog_source}
 use Rattle.prairie_top.specs.Reading.{ReadsCatalog}
 use Rattle.prairie_top.specs.Run.{Fetches}
-use Rattle.prairie_top.specs.SeenNames.{seen_names}
+use Rattle.prairie_words.specs.Seen.{seen_names}
 use Rattle.prairie_top.specs.Stages.{IsStopped}
 use Rattle.prairie_top.specs.declared.status.Status.{Status}
 use Rattle.prairie_top.proofs.ChainLaws.{read_next, stopped_chain}
