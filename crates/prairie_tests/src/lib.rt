@@ -14,6 +14,8 @@ mod again;
 #[cfg(test)]
 mod base_tests;
 #[cfg(test)]
+mod certificate_tests;
+#[cfg(test)]
 mod cost_tests;
 #[cfg(test)]
 mod derivation_tests;

@@ -1,0 +1,11 @@
+mod AgainLaws
+mod CertificateLaws
+mod DepthLaws
+mod EachLaws
+mod FieldLaws
+mod FieldOrder
+mod FirstLaws
+mod PairLaws
+mod PlaceLaws
+mod PutLaws
+mod SymbolTexts
