@@ -7,7 +7,7 @@ use Rattle.pr_value.specs.Trees.{tree}
 use Rattle.pr_value.specs.declared.kind.Kind.TheVariants as kind
 use Rattle.pr_value.specs.declared.value.Value.TheVariants as value
 use Rattle.descriptor_types.specs.Descriptors.{Layout, Desc, Mask, place_of, plain, fits, value_of, with_value, only, asked_of, same_desc}
-use Rattle.descriptor_types.specs.Labels.{file, operator, view, root_slots, ask}
+use Rattle.descriptor_types.specs.Labels.{file, operator, view, ask}
 
 abbrev layout : Layout
 layout =
@@ -86,9 +86,6 @@ view-root = refl
 ask-root : ask order wanted (tree (operator 2 scan) (tree (file (codes "emp") scan) [] ∷ []))
     ≡ tree (operator 2 (value.Num 7 ∷ value.Sym (codes "b") ∷ value.Num 3 ∷ [])) (tree (file (codes "emp") scan) [] ∷ [])
 ask-root = refl
-
-slots-root : root_slots layout order (tree (operator 2 scan) (tree (file (codes "emp") wanted) [] ∷ [])) ≡ record { nodes = scan ∷ []; streams = (value.Num 0 ∷ value.Sym (codes "b") ∷ value.Num 0 ∷ []) ∷ [] }
-slots-root = refl
 
 same-twice : same_desc scan scan ≡ true
 same-twice = refl

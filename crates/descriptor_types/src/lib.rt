@@ -5,7 +5,6 @@ mod desc;
 mod laws;
 mod layout;
 mod mask;
-mod slots;
 mod tree;
 
 pub use desc::Desc;
@@ -13,5 +12,4 @@ pub use laws::{descriptor_laws, place_laws};
 pub use layout::Layout;
 pub use mask::Mask;
 pub use pr_value::Property;
-pub use slots::Slots;
 pub use tree::{Tree, push_views};

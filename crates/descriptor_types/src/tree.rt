@@ -1,11 +1,10 @@
-ghost use Rattle.std.specs.Prelude.{◌≡◌, ◌++◌, map, IfOk, OnOk};
+ghost use Rattle.std.specs.Prelude.{◌≡◌, ◌++◌, length, map, take, IfOk, OnOk};
 ghost use Rattle.pr_value.specs.Trees.{inputs};
-ghost use Rattle.descriptor_types.specs.Labels.{desc_of, view, root_slots, ask, seen_tree};
+ghost use Rattle.descriptor_types.specs.Labels.{desc_of, view, ask, seen_tree};
 
 use crate::desc::Desc;
 use crate::layout::Layout;
 use crate::mask::Mask;
-use crate::slots::Slots;
 use pr_value::{Items, Memory, Symbol};
 use std::alloc::Global;
 
@@ -34,7 +33,8 @@ fn copy_trees(alloc: Global, trees: &[Tree]) -> Result<Items<Tree>, Memory>
     Ok(Items::from_vec(copies))
 }
 
-/// Appends the views of trees, in their order.
+/// Appends the views of trees, in their order. After an error some of them may stand there, behind
+/// what stood there before.
 pub fn push_views(
     alloc: Global,
     layout: &Layout,
@@ -42,7 +42,9 @@ pub fn push_views(
     trees: &[Tree],
     out: &mut Items<Desc>,
 ) -> Result<(), Memory>
-    ensures { OnOk result (out.new ≡ out.old ++ map (λ t. view layout.now seen.now (seen_tree t)) trees.now) }
+    ensures kept { take (length out.old) out.new ≡ out.old }
+    ensures pushed { OnOk result
+        (out.new ≡ out.old ++ map (λ t. view layout.now seen.now (seen_tree t)) trees.now) }
 {
     for tree in trees {
         out.push(tree.desc().view(alloc, layout, seen)?)?;
@@ -95,16 +97,6 @@ impl Tree {
     {
         let view = self.desc().view(alloc, layout, seen)?;
         Ok(view)
-    }
-
-    /// What a rule of one operator sees of the tree. No tree is copied.
-    pub fn slots(&self, alloc: Global, layout: &Layout, seen: &Mask) -> Result<Slots, Memory>
-        ensures { IfOk result (λ s. s ≡ root_slots layout.now seen.now (seen_tree self.now)) }
-    {
-        let mut slots = Slots::new(alloc);
-        slots.nodes.push(self.desc().copy(alloc)?)?;
-        push_views(alloc, layout, seen, self.inputs(), &mut slots.streams)?;
-        Ok(slots)
     }
 
     /// The tree with the values of `wanted` at the properties of the mask in its root.

@@ -3,64 +3,20 @@ use Rattle.std.proofs.Common.{◌≡◌, ℕ, zero, suc, ◌+◌, ◌≤◌, min
 use Rattle.std.specs.Prelude.{slice_get, zip}
 use Rattle.std.specs.Cmp.{first_so, second_so}
 use Rattle.std.specs.List.{list_all}
-use Rattle.std.specs.Str.{bytes_eq}
-use Rattle.std.proofs.lemmas.Bool.{false≢true}
-use Rattle.std.proofs.lemmas.List.{length-map, map-append}
+use Rattle.std.proofs.lemmas.List.{map-append}
 use Rattle.std.proofs.lemmas.Option.{same_Some}
 use Rattle.pr_value.proofs.TreeLaws.{trees_of_list_of}
-use Rattle.pr_value.specs.Symbols.{Symbol}
 use Rattle.pr_value.specs.Trees.{Tree, node, inputs, trees_of}
-use Rattle.pr_value.specs.declared.kind.Kind.{Kind}
-use Rattle.pr_value.specs.declared.kind.Kind.TheVariants as kind
-use Rattle.pr_value.specs.declared.property.Property.{Property}
 use Rattle.catalog.specs.Contents.{Catalog}
-use Rattle.descriptor_types.proofs.FitLaws.{fits-asked_of}
-use Rattle.descriptor_types.specs.Descriptors.{Desc, Mask, asked_of, fits, value_of}
-use Rattle.descriptor_types.specs.Labels.{Label, file, operator, ask}
-use Rattle.property_classes.specs.Classes as classes
-use Rattle.property_classes.specs.Classes.{classes_of}
-use Rattle.rule_ast.specs.CostForms.{cost_name}
-use Rattle.rule_ast.specs.Roles.{class_of}
+use Rattle.descriptor_types.specs.Descriptors.{Desc, Mask, fits}
+use Rattle.descriptor_types.specs.Labels.{Label, ask}
 use Rattle.rule_ast.specs.Syntax.{Rules}
-use Rattle.rule_ast.specs.Typing.{property_kind}
-use Rattle.rule_ast.specs.declared.roles.PropertyClass.{PropertyClass}
-use Rattle.rule_ast.specs.declared.roles.PropertyClass.TheVariants as class
-use Rattle.rule_types.proofs.AcceptedCosts.{accepted-one_cost}
 use Rattle.rule_types.specs.Conditions.{refused_by}
-use Rattle.query_tree.specs.Trees.{IsDesc, IsTree, AreTrees}
+use Rattle.query_tree.specs.Trees.{IsTree, AreTrees}
+use Rattle.query_tree.proofs.GoalLaws.{ask-IsTree}
 use Rattle.query_tree.specs.Views.{physical}
 use Rattle.plan_form.proofs.PairLaws.{zip-more, zip-all}
 use Rattle.plan_form.specs.Plans.{each_asked}
-
--- ---- one tree
-
-abbrev mask_of : Rules → List Property → Mask
-mask_of r ps = map classes.is_physical (map (class_of r) ps)
-
-class-cost : (r : Rules) (p : Property) → p.kind ≡ kind.Cost → class_of r p ≡ class.Cost
-class-cost r p is = ap (λ (k : Kind). class_of r (record { name = p.name; kind = k })) is
-
--- the cost is not physical, so it stays
-asked-cost : (r : Rules) (ps : List Property) (name : Symbol) (w d : Desc) → property_kind ps name ≡ Some kind.Cost → fits ps w ≡ true → fits ps d ≡ true → value_of ps name (asked_of (mask_of r ps) w d) ≡ value_of ps name d
-asked-cost r [] name w d is fit_wanted fit = cc
-asked-cost r (p ∷ ps) name [] d is fit_wanted fit = absurd (false≢true fit_wanted)
-asked-cost r (p ∷ ps) name (w ∷ ws) [] is fit_wanted fit = absurd (false≢true fit)
-asked-cost r (p ∷ ps) name (w ∷ ws) (v ∷ d) is fit_wanted fit =
-    elim (bytes_eq p.name name) as (λ b. cond b (Some p.kind) (property_kind ps name) ≡ Some kind.Cost → cond b (cond (classes.is_physical (class_of r p)) w v) (value_of ps name (asked_of (mask_of r ps) ws d)) ≡ cond b v (value_of ps name d)) [
-      | true ↦ λ e. ap (λ (k : PropertyClass). cond (classes.is_physical k) w v) (class-cost r p (same_Some p.kind kind.Cost e))
-      | false ↦ λ e. asked-cost r ps name ws d e (second_so _ _ fit_wanted) (second_so _ _ fit)
-    ] is
-
-length-physical : (r : Rules) → length (physical r) ≡ length r.properties
-length-physical r = length-map (classes_of r) classes.is_physical ∙ length-map r.properties (class_of r)
-
-asked-IsDesc : (r : Rules) (w d : Desc) → refused_by r ≡ None → fits r.properties w ≡ true → IsDesc r d → IsDesc r (asked_of (physical r) w d)
-asked-IsDesc r w d accepted fit is =
-    (fits-asked_of r.properties (physical r) w d (length-physical r) fit is.0, asked-cost r r.properties (cost_name r.properties) w d (accepted-one_cost r accepted).declared fit is.0 ∙ is.1)
-
-ask-IsTree : (r : Rules) (c : Catalog) (w : Desc) (t : Tree Label) → refused_by r ≡ None → fits r.properties w ≡ true → IsTree r c t → IsTree r c (ask (physical r) w t)
-ask-IsTree r c w (node (file name d) ts) accepted fit is = (asked-IsDesc r w d accepted fit is.0, is.1, is.2)
-ask-IsTree r c w (node (operator op d) ts) accepted fit is = (asked-IsDesc r w d accepted fit is.0, is.1, is.2)
 
 -- ---- lists of trees
 

@@ -1,5 +1,5 @@
 -- The trees that an I-rule's streams stand for, and how many of them it asks something.
-use Rattle.std.proofs.Common.{◌≡◌, ℕ, zero, suc, Bool, true, List, [], ◌∷◌, length, map, Option, Some, None, ap, sym, ◌∙◌}
+use Rattle.std.proofs.Common.{◌≡◌, ℕ, zero, suc, Bool, true, List, [], ◌∷◌, length, map, Option, Some, None, option_map, unwrap_or, ap, sym, ◌∙◌}
 use Rattle.std.specs.Prelude.{slice_get, option_and_then}
 use Rattle.std.specs.Cmp.{first_so, second_so}
 use Rattle.std.specs.List.{list_all}
@@ -9,21 +9,20 @@ use Rattle.pr_value.proofs.Shelf.{option_and_then-some, option_map-some}
 use Rattle.pr_value.specs.Trees.{Tree, inputs}
 use Rattle.catalog.specs.Contents.{Catalog}
 use Rattle.descriptor_types.specs.Labels.{Label}
-use Rattle.rule_ast.specs.Descs.{names_of}
+use Rattle.rule_ast.specs.Descs.{names_of, stream_numbers}
 use Rattle.rule_ast.specs.Spelled.{spells, spells_irule, spells_left}
 use Rattle.rule_ast.specs.Syntax.{IRule, Rules}
 use Rattle.rule_ast.specs.declared.sides.ImplIn.{ImplIn}
 use Rattle.rule_types.proofs.AcceptedSides.{accepted-sides}
 use Rattle.rule_types.specs.AcceptedLaws.{is_flat, is_sound_irule}
 use Rattle.rule_types.specs.Conditions.{refused_by, same_numbers}
-use Rattle.rule_types.specs.Uses.{streams}
 use Rattle.action_eval.specs.Cost.{IStep}
-use Rattle.query_tree.specs.Matches.{Matched, matched}
-use Rattle.query_tree.specs.Scopes.{env_over, irule_scope, tested}
-use Rattle.query_tree.specs.Steps.{i_step, implemented, irule_run}
-use Rattle.query_tree.specs.Views.{view_in}
+use Rattle.query_tree.specs.Steps.{i_step, irule_match}
+use Rattle.query_tree.specs.Views.{physical}
+use Rattle.rule_runs.specs.Matching.{Matched}
+use Rattle.rule_runs.specs.Runs.{env_over, implemented, irule_run, irule_scope, tested}
 use Rattle.plan_form.proofs.SideLaws.{matched-streams, same_numbers-long, streams-long}
-use Rattle.plan_form.specs.Plans.{matched_by, matched_streams, streams_in}
+use Rattle.plan_form.specs.Plans.{matched_streams}
 
 all-at : {X : Type 0} (p : X → Bool) (xs : List X) (i : ℕ) (x : X) → list_all p xs ≡ true → slice_get xs i ≡ Some x → p x ≡ true
 all-at p [] i x all at = cc
@@ -33,18 +32,18 @@ all-at p (y ∷ xs) (suc i) x all at = all-at p xs i x (second_so _ _ all) at
 -- a rule that applies, and what its left side matched
 pub record IsStep (r : Rules) (c : Catalog) (n : ℕ) (t : Tree Label) (s : IStep) : Type 0 where
   pub rule : IRule
-  pub found : Matched
+  pub found : Matched (Tree Label)
   pub at : slice_get r.irules n ≡ Some rule
-  pub matches : matched r rule.left t ≡ Some found
+  pub matches : irule_match r rule t ≡ Some found
   pub asked : length s.asked ≡ length rule.right.inputs
 
 pub step-IsStep : (r : Rules) (c : Catalog) (n : ℕ) (t : Tree Label) (s : IStep) → i_step r c n t ≡ Some s → IsStep r c n t s
 step-IsStep r c n t s e =
-    let one = option_and_then-some (λ (i : IRule). option_and_then (λ (m : Matched). irule_run r c i m.slots (map (view_in r) m.streams)) (matched r i.left t)) (slice_get r.irules n) s e in
+    let one = option_and_then-some (λ (i : IRule). option_and_then (λ (m : Matched (Tree Label)). irule_run r (physical r) c i m.slots) (irule_match r i t)) (slice_get r.irules n) s e in
     let i : IRule = one.0 in
-    let two = option_and_then-some (λ (m : Matched). irule_run r c i m.slots (map (view_in r) m.streams)) (matched r i.left t) s one.2 in
-    let m : Matched = two.0 in
-    let three = option_map-some (implemented r c i) (tested c i.body (env_over r (irule_scope i m.slots (map (view_in r) m.streams)))) s two.2 in
+    let two = option_and_then-some (λ (m : Matched (Tree Label)). irule_run r (physical r) c i m.slots) (irule_match r i t) s one.2 in
+    let m : Matched (Tree Label) = two.0 in
+    let three = option_map-some (implemented r (physical r) c i) (tested c i.body (env_over r (irule_scope i m.slots))) s two.2 in
     record {
       rule = i;
       found = m;
@@ -57,7 +56,7 @@ step-IsStep r c n t s e =
 record IsFlat (i : IRule) : Type 0 where
   spelled : spells_left i.left ≡ true
   flat : is_flat i.left ≡ true
-  numbers : same_numbers (map (λ (x : ImplIn). x.number) i.right.inputs) (streams i.left) ≡ true
+  numbers : same_numbers (map (λ (x : ImplIn). x.number) i.right.inputs) (stream_numbers i.left) ≡ true
 
 irule-IsFlat : (r : Rules) (n : ℕ) (i : IRule) → spells r ≡ true → refused_by r ≡ None → slice_get r.irules n ≡ Some i → IsFlat i
 irule-IsFlat r n i spelled accepted at =
@@ -75,11 +74,11 @@ pub streams-inputs : (r : Rules) (c : Catalog) (n : ℕ) (t : Tree Label) (s : I
 streams-inputs r c n t s spelled accepted e =
     let step = step-IsStep r c n t s e in
     let flat = irule-IsFlat r n step.rule spelled accepted step.at in
-    ap (λ (o : Option IRule). streams_in (matched_by r t o)) step.at ∙ (ap streams_in step.matches ∙ matched-streams r step.rule.left t step.found flat.spelled flat.flat step.matches)
+    ap (λ (o : Option IRule). unwrap_or (option_and_then (λ (i : IRule). option_map (λ (m : Matched (Tree Label)). m.streams) (irule_match r i t)) o) []) step.at ∙ (ap (λ (o : Option (Matched (Tree Label))). unwrap_or (option_map (λ (m : Matched (Tree Label)). m.streams) o) []) step.matches ∙ matched-streams r step.rule.left t step.found flat.spelled flat.flat step.matches)
 
 -- something is asked of each
 pub asked-long : (r : Rules) (c : Catalog) (n : ℕ) (t : Tree Label) (s : IStep) → spells r ≡ true → refused_by r ≡ None → i_step r c n t ≡ Some s → length s.asked ≡ length (inputs t)
 asked-long r c n t s spelled accepted e =
     let step = step-IsStep r c n t s e in
     let flat = irule-IsFlat r n step.rule spelled accepted step.at in
-    step.asked ∙ (same_numbers-long (λ (x : ImplIn). x.number) step.rule.right.inputs (streams step.rule.left) flat.numbers ∙ streams-long r step.rule.left t step.found flat.spelled flat.flat step.matches)
+    step.asked ∙ (same_numbers-long (λ (x : ImplIn). x.number) step.rule.right.inputs (stream_numbers step.rule.left) flat.numbers ∙ streams-long r step.rule.left t step.found flat.spelled flat.flat step.matches)

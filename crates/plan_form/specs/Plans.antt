@@ -1,5 +1,5 @@
 -- Plans, what they implement, their costs, and best plans.
-use Rattle.std.specs.Prelude.{◌≡◌, ℕ, ◌≤◌, List, [], ◌∷◌, map, zip, Option, Some, None, option_and_then, slice_get, ⊤}
+use Rattle.std.specs.Prelude.{◌≡◌, ℕ, ◌≤◌, List, [], ◌∷◌, map, zip, Option, Some, None, unwrap_or, ⊤}
 use Rattle.pr_value.specs.Symbols.{Symbol}
 use Rattle.pr_value.specs.Trees.{Tree, node, Trees, nil, cons, list_of, tree}
 use Rattle.pr_value.specs.Values.{number_in}
@@ -9,11 +9,10 @@ use Rattle.descriptor_types.specs.Descriptors.{Desc, Mask, only, value_of, with_
 use Rattle.descriptor_types.specs.Labels.{Label, ask}
 use Rattle.descriptor_types.specs.Labels as label
 use Rattle.rule_ast.specs.CostForms.{cost_name}
-use Rattle.rule_ast.specs.Syntax.{IRule, Rules}
+use Rattle.rule_ast.specs.Syntax.{Rules}
 use Rattle.action_eval.specs.Cost.{IStep, cost_of}
-use Rattle.query_tree.specs.Matches.{Matched, matched}
 use Rattle.query_tree.specs.Query.{fields_in, file_desc}
-use Rattle.query_tree.specs.Steps.{i_step}
+use Rattle.query_tree.specs.Steps.{i_step, i_streams}
 use Rattle.query_tree.specs.Views.{physical}
 use Rattle.plan_form.specs.declared.plan.Plan as rust
 use Rattle.plan_form.specs.declared.plan.Plan.TheOpen.{Plan-F}
@@ -58,17 +57,9 @@ plan_by r n s ps = tree (algorithm n (costed r s (map (cost r) ps))) ps
 
 -- ---- what plans implement
 
--- the trees that the streams of a match stand for
-abbrev pub streams_in : Option Matched → List (Tree Label)
-streams_in None = []
-streams_in (Some m) = m.streams
-
-abbrev pub matched_by : Rules → Tree Label → Option IRule → Option Matched
-matched_by r t = option_and_then (λ i. matched r i.left t)
-
 -- the trees that the streams of the I-rule of that number stand for at the root of the tree
 abbrev pub matched_streams : Rules → ℕ → Tree Label → List (Tree Label)
-matched_streams r n t = streams_in (matched_by r t (slice_get r.irules n))
+matched_streams r n t = unwrap_or (i_streams r n t) []
 
 -- each tree with the physical properties that are asked of it
 abbrev pub each_asked : Mask → List Desc → List (Tree Label) → List (Tree Label)

@@ -1,5 +1,5 @@
 use catalog::{Catalog, FileEntry, read_catalog};
-use descriptor_types::{Desc, Layout, Mask, Slots, Tree};
+use descriptor_types::{Desc, Layout, Mask, Tree, push_views};
 use pr_value::{
     Items, Kind, Property, SymList, SymSet, Symbol, SymbolError, Value, are_distinct,
     first_repeated,
@@ -163,23 +163,7 @@ fn asked(rt: &impl Abort, alloc: Global, layout: &Layout, seen: &Mask, file: &De
     asked.copy(alloc).expect(rt, "memory")
 }
 
-fn are_roots(nodes: &[Desc], root: &Desc, layout: &Layout) -> bool {
-    nodes.iter().all(|it| *it == *root && it.fits(layout))
-}
-
-#[test]
-fn a_rule_sees_the_root_whole(rt: HostRuntime) {
-    let alloc = rt.alloc();
-    let layout = layout(&rt, alloc);
-    let seen = second(&rt, alloc);
-    let file = nine(&rt, alloc, &layout);
-    let tree = asked(&rt, alloc, &layout, &seen, &file);
-    let slots = tree.slots(alloc, &layout, &seen).expect(&rt, "memory");
-    assert_eq!(rt; slots.nodes.len(), 1);
-    assert!(rt; are_roots(slots.nodes.as_slice(), tree.desc(), &layout));
-}
-
-/// The streams that a rule sees for the inputs of such a tree.
+/// What is seen of the inputs of such a tree.
 fn streams(
     rt: &impl Abort,
     alloc: Global,
@@ -188,8 +172,9 @@ fn streams(
     file: &Desc,
 ) -> Items<Desc> {
     let tree = asked(rt, alloc, layout, seen, file);
-    let Slots { nodes: _, streams } = tree.slots(alloc, layout, seen).expect(rt, "memory");
-    streams
+    let mut views = Items::new(alloc);
+    push_views(alloc, layout, seen, tree.inputs(), &mut views).expect(rt, "memory");
+    views
 }
 
 fn are_views(streams: &[Desc], view: &Desc, whole: &Desc) -> bool {

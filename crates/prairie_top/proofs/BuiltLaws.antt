@@ -16,12 +16,12 @@ use Rattle.pr_value.specs.Symbols.{Symbol}
 use Rattle.pr_value.specs.Trees.{Tree, node, Trees, nil, cons, list_of, trees_of}
 use Rattle.query_tree.proofs.BuildLaws.{file-tree, fits-scope, initial-fits, initial-free, named_nothing, stands-right, typed-init, zip-scope}
 use Rattle.query_tree.proofs.FaultLaws.{faultless}
-use Rattle.query_tree.proofs.ScopeLaws.{sound_over}
+use Rattle.rule_runs.proofs.ScopeLaws.{sound_over}
 use Rattle.query_tree.proofs.SoundLaws.{file-sound, plain-sound, settings-sound}
 use Rattle.query_tree.specs.Faultless.{AreFaultless, IsFaultless}
-use Rattle.query_tree.specs.Query.{fields_in, file_desc, initial_desc, operator_named, query_tree, query_trees, with_settings}
+use Rattle.query_tree.specs.Query.{fields_in, file_desc, initial_desc, operator_named, operator_scope, query_tree, query_trees, with_settings}
 use Rattle.query_tree.specs.Refusals.{first_setting, is_wrong_file, is_wrong_setting, refusal_of}
-use Rattle.query_tree.specs.Scopes.{env_over, operator_scope}
+use Rattle.rule_runs.specs.Runs.{env_over}
 use Rattle.query_tree.specs.Trees.{AreTrees, IsDesc, IsTree}
 use Rattle.query_tree.specs.Views.{view_in}
 use Rattle.rule_ast.specs.Descs.{operator_descs}
@@ -29,6 +29,7 @@ use Rattle.rule_ast.specs.Syntax.{Operator, Query, QueryLabel, Rules, Stmt, set,
 use Rattle.rule_ast.specs.Typing.{Context, is_typed_stmt, signatures_of}
 use Rattle.rule_ast.specs.declared.query.Setting.{Setting}
 use Rattle.rule_types.proofs.AcceptedCosts.{accepted-one_cost}
+use Rattle.rule_types.proofs.AcceptedTypes.{accepted-types}
 use Rattle.rule_types.specs.Conditions.{refused_by}
 
 -- ---- statements that are well typed
@@ -78,7 +79,7 @@ sound-initial_desc r c i o ss ts accepted at as_many sound right =
     let zipped = zip-scope o views d (operator_descs o) (views ++ d ∷ []) seen refl refl in
     let start : IsSound env =
     subst (λ (ds : List (Symbol × Desc)). IsSound (env_over r ds)) zipped
-    (sound_over r (operator_descs o) (views ++ d ∷ []) accepted (fits-scope r c ts d (views ++ d ∷ []) accepted sound own refl)) in
+    (sound_over r (operator_descs o) (views ++ d ∷ []) (accepted-types r accepted).helpers (fits-scope r c ts d (views ++ d ∷ []) accepted sound own refl)) in
     let stays = sound-after c o.init env start (typed-init r i o views d env accepted at seen refl) in (
       initial-fits r o views d env (after env c o.init) seen refl refl stays.sound stays.context,
       initial-free r c i o ss ts accepted at sound own,

@@ -1,15 +1,24 @@
 -- What is known of the rules of an accepted rule set.
-use Rattle.std.proofs.Common.{◌≡◌, ℕ, zero, suc, ◌<◌, Bool, true, false, not, List, [], ◌∷◌, length, map, get_or, Some, None, ap, sym, subst, arith}
+use Rattle.std.proofs.Common.{◌≡◌, ℕ, zero, suc, ◌<◌, Bool, true, false, not, List, [], ◌∷◌, ◌++◌, length, map, get_or, Option, Some, None, refl, ap, sym, ◌∙◌, subst, arith}
 use Rattle.std.specs.Cmp.{first_so, second_so}
 use Rattle.std.specs.List.{Contains, list_all}
 use Rattle.std.specs.Prelude.{◌&&◌, slice_get}
-use Rattle.std.proofs.lemmas.Bool.{not-true}
+use Rattle.std.specs.Cmp.Derive.{both_true}
+use Rattle.std.specs.Str.{bytes_eq}
+use Rattle.std.proofs.lemmas.Bool.{false≢true, not-true}
+use Rattle.std.proofs.lemmas.List.{length-map}
+use Rattle.std.proofs.lemmas.List.Folds.{list_any-append}
+use Rattle.action_eval.proofs.PlainLaws.{or_first}
+use Rattle.pr_value.specs.SymbolSets.{contains}
+use Rattle.rule_runs.specs.Conditions.{CanImplement, CanRun, GivesCost}
+use Rattle.query_tree.proofs.NumberLaws.{numbers-long}
 use Rattle.pr_value.specs.Repeats.{are_distinct}
 use Rattle.pr_value.specs.Symbols.{Symbol}
 use Rattle.rule_ast.specs.CostForms.{cost_name, is_cost_form, reads_cost_of}
-use Rattle.rule_ast.specs.Descs.{names_of, trule_descs, irule_descs}
+use Rattle.rule_ast.specs.CostGiven.{cost_of}
+use Rattle.rule_ast.specs.Descs.{impl_descs, left_descs, names_of, stream_numbers, trule_descs, irule_descs}
 use Rattle.rule_ast.specs.Syntax.{Expr, TRule, IRule, Rules}
-use Rattle.rule_ast.specs.Typing.{Context, signatures_of, type_of, is_type}
+use Rattle.rule_ast.specs.Typing.{Context, signatures_of, type_of, is_type, is_typed_body}
 use Rattle.pr_value.specs.declared.kind.Kind.TheVariants as kind
 use Rattle.rule_types.proofs.AcceptedArities.{accepted-arities, accepted-known}
 use Rattle.rule_types.proofs.AcceptedCosts.{accepted-assigned, accepted-costs}
@@ -17,9 +26,9 @@ use Rattle.rule_types.proofs.AcceptedNames.{accepted-descs, accepted-names}
 use Rattle.rule_types.proofs.AcceptedSides.{accepted-sides}
 use Rattle.rule_types.proofs.AcceptedTypes.{accepted-types}
 use Rattle.rule_types.specs.AcceptedLaws.{is_sound_irule}
-use Rattle.rule_types.specs.Conditions.{is_typed_body, operator_names, refused_by, same_numbers, unknown_in_trule, wrong_in_trule}
-use Rattle.rule_types.specs.LaterConditions.{assigns_cost, cost_of, holds_of}
-use Rattle.rule_types.specs.Uses.{any_use_of, streams}
+use Rattle.rule_types.specs.Conditions.{operator_names, refused_by, same_numbers, unknown_in_trule, wrong_in_trule}
+use Rattle.rule_types.specs.LaterConditions.{assigns_cost, holds_of}
+use Rattle.rule_types.specs.Uses.{any_use_of}
 
 -- ---- what is asked of a rule
 
@@ -78,7 +87,7 @@ trule_facts r accepted t there = record {
 pub record IsIRule (r : Rules) (i : IRule) : Type 0 where
   pub distinct : are_distinct (irule_descs i) ≡ true
   pub typed : is_typed_irule r i ≡ true
-  pub ordered : same_numbers (map (λ s. s.number) i.right.inputs) (streams i.left) ≡ true
+  pub ordered : same_numbers (map (λ s. s.number) i.right.inputs) (stream_numbers i.left) ≡ true
   pub cost : holds_of (is_sound_cost r i) (cost_of (cost_name r.properties) i) ≡ true
   pub number : holds_of (is_number r i) (cost_of (cost_name r.properties) i) ≡ true
 
@@ -90,3 +99,47 @@ irule_facts r accepted i there = record {
   cost = passes-Contains (λ (u : IRule). holds_of (is_sound_cost r u) (cost_of (cost_name r.properties) u)) r.irules i (accepted-costs r accepted).forms there;
   number = passes-Contains (λ (u : IRule). holds_of (is_number r u) (cost_of (cost_name r.properties) u)) r.irules i (accepted-costs r accepted).numbers there;
 }
+
+-- ---- a rule of an accepted rule set runs
+
+pub trule-CanRun : (r : Rules) → refused_by r ≡ None → (t : TRule) → Contains r.trules t → CanRun r t
+trule-CanRun r accepted t there = let f = trule_facts r accepted t there in record { helpers = (accepted-types r accepted).helpers; different = f.distinct; typed = f.typed }
+
+same-long : (ms ns : List ℕ) → same_numbers ms ns ≡ true → length ms ≡ length ns
+same-long [] [] e = refl
+same-long [] (n ∷ ns) e = absurd (false≢true e)
+same-long (m ∷ ms) [] e = absurd (false≢true e)
+same-long (m ∷ ms) (n ∷ ns) e = ap suc (same-long ms ns (second_so _ _ e))
+
+distinct-right : (ss ts : List Symbol) → are_distinct (ss ++ ts) ≡ true → are_distinct ts ≡ true
+distinct-right [] ts e = e
+distinct-right (s ∷ ss) ts e = distinct-right ss ts (second_so _ _ e)
+
+not-there : (a b : Bool) → (not a && b) ≡ true → a ≡ false
+not-there true b e = absurd (false≢true e)
+not-there false b e = refl
+
+distinct-left : (ss ts : List Symbol) → are_distinct (ss ++ ts) ≡ true → are_distinct ss ≡ true
+distinct-left [] ts e = refl
+distinct-left (s ∷ ss) ts e =
+    let none : contains (ss ++ ts) s ≡ false = not-there _ _ e in
+    let left : contains ss s ≡ false = or_first (contains ss s) (contains ts s) (sym (list_any-append (bytes_eq s) ss ts) ∙ none) in
+    both_true (ap not left) (distinct-left ss ts (second_so _ _ e))
+
+-- the expression that gives a cost
+cost-given : (r : Rules) (i : IRule) (o : Option Expr) → cost_of (cost_name r.properties) i ≡ o → holds_of (is_sound_cost r i) o ≡ true → holds_of (is_number r i) o ≡ true → GivesCost r i
+cost-given r i None given sound counted = absurd (false≢true sound)
+cost-given r i (Some e) given sound counted = record { cost = e; given = given; number = counted; form = first_so _ _ sound; of_inputs = second_so _ _ sound }
+
+pub irule-CanImplement : (r : Rules) → refused_by r ≡ None → (i : IRule) → Contains r.irules i → CanImplement r i
+irule-CanImplement r accepted i there =
+    let f = irule_facts r accepted i there in
+    let a = length-map i.right.inputs (λ s. s.number) in
+    let b = same-long (map (λ s. s.number) i.right.inputs) (stream_numbers i.left) f.ordered in
+    let c = numbers-long i.left in
+    record {
+      typed = record { helpers = (accepted-types r accepted).helpers; different = f.distinct; typed = f.typed };
+      as_many = omega (arith, a, b, c);
+      inputs = distinct-left (names_of i.right.inputs) (i.right.desc ∷ []) (distinct-right (left_descs i.left) (impl_descs i.right) f.distinct);
+      cost = cost-given r i (cost_of (cost_name r.properties) i) refl f.cost f.number;
+    }

@@ -3,8 +3,8 @@ use Rattle.std.proofs.Common.{◌≡◌, ℕ, zero, suc, ◌+◌, ◌<◌, ◌�
 use Rattle.std.specs.Prelude.{All, slice_get}
 use Rattle.std.proofs.lemmas.Bool.{false≢true}
 use Rattle.std.proofs.lemmas.List.{length-map}
-use Rattle.query_tree.proofs.MadeLaws.{made-more}
-use Rattle.query_tree.proofs.MatchLaws.{at_place}
+use Rattle.query_tree.proofs.PlaceLaws.{at_place}
+use Rattle.rule_runs.proofs.SideLaws.{made-more}
 use Rattle.catalog.specs.Contents.{Catalog}
 use Rattle.derivation.proofs.LogLaws.{stands_within}
 use Rattle.derivation.proofs.StandsLaws.{keeps_of_take, stand_still}
@@ -24,7 +24,7 @@ use Rattle.rule_types.specs.Conditions.{refused_by}
 use Rattle.rule_types.proofs.AcceptedArities.{accepted-arities}
 use Rattle.rule_types.proofs.AcceptedSides.{accepted-sides}
 use Rattle.query_tree.proofs.AcceptedFacts.{accepted-operators}
-use Rattle.query_tree.proofs.EnforcerLaws.{HasBareLefts, enforcer-one}
+use Rattle.query_tree.proofs.EnforcerLaws.{enforcer-one}
 use Rattle.query_tree.specs.Dressed.{dressed}
 use Rattle.query_tree.specs.Equality.{enforces}
 use Rattle.query_tree.specs.TreeLabels.{dressed_label, is_on_edge}
@@ -120,12 +120,12 @@ long-list : (us : List (Tree Label)) → length (list_of (trees_of us)) ≡ leng
 long-list [] = refl
 long-list (u ∷ us) = ap suc (long-list us)
 
-pub node_over_one : (r : Rules) (k : Catalog) (l : TreeLabel) (op : ℕ) (d : Desc) (us : List (Tree Label)) (ns : List ℕ) → refused_by r ≡ None → HasBareLefts r.irules → IsTree r k (tree (operator op d) us) → length ns ≡ length us → (e : Desc) → l ≡ dressed_label r (operator op e)
+pub node_over_one : (r : Rules) (k : Catalog) (l : TreeLabel) (op : ℕ) (d : Desc) (us : List (Tree Label)) (ns : List ℕ) → refused_by r ≡ None → IsTree r k (tree (operator op d) us) → length ns ≡ length us → (e : Desc) → l ≡ dressed_label r (operator op e)
     → IsOverOne is_on_edge (term l ns)
-node_over_one r k l op d us ns accepted bare is long e label on =
+node_over_one r k l op d us ns accepted is long e label on =
     let enforcing : enforces r op ≡ true = sym (ap is_on_edge label) ∙ on in
     let o = is.1.0 in
-    let one = enforcer-one r (accepted-operators r accepted) (accepted-arities r accepted) (accepted-sides r accepted) bare op o is.1.1 enforcing in
+    let one = enforcer-one r (accepted-operators r accepted) (accepted-arities r accepted) (accepted-sides r accepted) op o is.1.1 enforcing in
     let many = is.1.2 in
     let listed = long-list us in
     omega (arith, long, one, many, listed)

@@ -1,19 +1,21 @@
 -- No T-rule of an accepted rule set takes or makes a tree with an enforcer at its root.
 use Rattle.std.proofs.Common.{◌≡◌, ℕ, zero, suc, Bool, true, false, not, cond, List, [], ◌∷◌, map, Option, Some, None, option_map, refl, ap, sym, ◌∙◌, subst}
-use Rattle.std.specs.Prelude.{◌&&◌, option_and_then, slice_get, zip}
+use Rattle.std.specs.Prelude.{◌&&◌, ◌==◌, option_and_then, slice_get}
 use Rattle.std.specs.Cmp.{first_so, second_so}
 use Rattle.std.specs.List.{list_all}
 use Rattle.std.specs.Str.{bytes_eq}
 use Rattle.std.proofs.lemmas.Bool.{false≢true}
+use Rattle.std.proofs.lemmas.Bool.Decides.{Decides-eqb}
 use Rattle.action_eval.proofs.PlainLaws.{or_first}
 use Rattle.action_eval.proofs.TypeLaws.{some-same}
-use Rattle.action_eval.specs.Environments.{Env}
 use Rattle.catalog.specs.Contents.{Catalog}
 use Rattle.derivation.specs.Laws.{NoRuleTouches}
+use Rattle.descriptor_types.specs.Descriptors.{Desc}
 use Rattle.descriptor_types.specs.Labels.{Label, file, operator}
 use Rattle.pr_value.proofs.Shelf.{bytes_eq-same, option_and_then-some, option_map-some}
 use Rattle.pr_value.specs.Symbols.{Symbol}
-use Rattle.pr_value.specs.Trees.{Tree, Trees, node, label, trees_of}
+use Rattle.pr_value.specs.Trees.{Tree, Trees, node, label, list_of, trees_of}
+use Rattle.rule_ast.specs.Descs.{stream_numbers}
 use Rattle.rule_ast.specs.Roles.{is_enforcer}
 use Rattle.rule_ast.specs.Seen.{seen_left_in, left_level, left_input_level, seen_right_in, right_level, right_input_level, seen_trule}
 use Rattle.rule_ast.specs.Syntax.{LeftLabel, RightLabel, Operator, TRule, Rules}
@@ -25,11 +27,13 @@ use Rattle.rule_ast.specs.declared.sides.RightIn.TheFolds.{fold_out-Right}
 use Rattle.rule_types.specs.AcceptedLaws.{HasSoundSides, is_sound_trule}
 use Rattle.rule_types.specs.Conditions.{are_numbers_distinct}
 use Rattle.rule_types.specs.LaterConditions.{is_left_enforcer, is_right_enforcer}
-use Rattle.rule_types.specs.Uses.{any_node, any_nodes, streams}
+use Rattle.rule_types.specs.Uses.{any_node, any_nodes}
 use Rattle.query_tree.specs.Equality.{enforces, is_enforcing, leads_to_null}
-use Rattle.query_tree.specs.Matches.{Matched, matched, all_matched, is_named, with_node}
-use Rattle.query_tree.specs.Scopes.{Scope}
-use Rattle.query_tree.specs.Steps.{made, operator_at, rewritten, step, trule_run}
+use Rattle.query_tree.specs.Steps.{rewritten, step, tree_roots, tree_with, trule_match}
+use Rattle.rule_runs.specs.Matching.{Matched, matched, all_matched, with_node}
+use Rattle.rule_runs.specs.Runs.{trule_made}
+use Rattle.rule_runs.specs.Sides as side
+use Rattle.rule_runs.specs.Sides.{Side, SideLabel, left_side, left_side_in, left_sides_in, operator_at, right_side, right_side_in, right_sides_in}
 
 -- ---- the sides of rules
 
@@ -72,18 +76,6 @@ passes-at p (y ∷ ys) (suc n) x all at = passes-at p ys n x (second_so _ _ all)
 
 -- ---- enforcers
 
--- an operator of that name is no enforcer where none of that name is
-named_plain : (r : Rules) (o : Option Operator) (name : Symbol) → is_named o name ≡ true → is_enforcer r.irules name ≡ false → leads_to_null r o ≡ false
-named_plain r None name named plain = absurd (false≢true named)
-named_plain r (Some p) name named plain = ap (is_enforcer r.irules) (bytes_eq-same p.name name named) ∙ plain
-
-pub matched-plain : (r : Rules) (o d : Symbol) (ls : Trees LeftLabel) (u : Tree Label) (m : Matched) → is_enforcer r.irules o ≡ false → matched r (node (LeftLabel.operator o d) ls) u ≡ Some m → is_enforcing r (label u) ≡ false
-matched-plain r o d ls (node (file name e) ts) m plain is = refl
-matched-plain r o d ls (node (operator op e) ts) m plain is = by (is_named (slice_get r.operators op) o) refl is where
-  by : (b : Bool) → is_named (slice_get r.operators op) o ≡ b → cond b (option_map (with_node e) (all_matched r ls ts)) None ≡ Some m → enforces r op ≡ false
-  by true named is = named_plain r (slice_get r.operators op) o named plain
-  by false named is = cc
-
 -- the operator of a name is no enforcer where none of that name is
 at_plain : (r : Rules) (os : List Operator) (name : Symbol) → is_enforcer r.irules name ≡ false → leads_to_null r (slice_get os (operator_at os name)) ≡ false
 at_plain r [] name plain = refl
@@ -92,8 +84,18 @@ at_plain r (p ∷ ps) name plain = by (bytes_eq p.name name) refl (at_plain r ps
   by true e rest = ap (is_enforcer r.irules) (bytes_eq-same p.name name e) ∙ plain
   by false e rest = rest
 
-pub made-plain : (r : Rules) (scope : Scope) (trees : List (ℕ × Tree Label)) (o d : Symbol) (rs : Trees RightLabel) → is_enforcer r.irules o ≡ false → is_enforcing r (label (made r.operators scope trees (node (RightLabel.operator o d) rs))) ≡ false
-made-plain r scope trees o d rs plain = at_plain r r.operators o plain
+-- a tree that an operator matches has that operator at its root
+matched-op : (r : Rules) (op : ℕ) (ls : Trees SideLabel) (u : Tree Label) (m : Matched (Tree Label)) → enforces r op ≡ false → matched (tree_roots r) (node (side.operator op) ls) u ≡ Some m → is_enforcing r (label u) ≡ false
+matched-op r op ls (node (file name e) ts) m plain is = cc
+matched-op r op ls (node (operator n e) ts) m plain is = by (n == op) refl is where
+  by : (b : Bool) → (n == op) ≡ b → cond b (option_map (with_node e) (all_matched (tree_roots r) ls (list_of ts))) None ≡ Some m → enforces r n ≡ false
+  by true same is = ap (enforces r) ((Decides-eqb n op).0 same) ∙ plain
+  by false same is = cc
+
+-- what is made of descriptors, or of none, has the side's operator at its root, or is a file
+made-op : (r : Rules) (ts : List (Tree Label)) (op : ℕ) (rs : Trees SideLabel) (ds : List Desc) → enforces r op ≡ false → is_enforcing r (label (tree_with ts (node (side.operator op) rs) ds).0) ≡ false
+made-op r ts op rs [] plain = refl
+made-op r ts op rs (d ∷ ds) plain = plain
 
 -- ---- what a rule takes and makes
 
@@ -101,21 +103,21 @@ pub record TookAndMade (r : Rules) (c : Catalog) (u v : Tree Label) : Type 0 whe
   pub rule : TRule
   pub place : ℕ
   pub there : slice_get r.trules place ≡ Some rule
-  pub match : Matched
-  pub matches : matched r rule.left u ≡ Some match
-  pub env : Env
-  pub runs : trule_run r c rule match.slots ≡ Some env
-  pub makes : made r.operators env.descs (zip (streams rule.left) match.streams) rule.right ≡ v
+  pub match : Matched (Tree Label)
+  pub matches : trule_match r rule u ≡ Some match
+  pub descs : List Desc
+  pub runs : trule_made r c rule match.slots ≡ Some descs
+  pub makes : (tree_with match.streams (right_side r.operators rule.left rule.right) descs).0 ≡ v
 
 -- where a step gives a tree, its rule matches and its test is true
 pub step-takes : (r : Rules) (c : Catalog) (n : ℕ) (u v : Tree Label) → step r c n u ≡ Some v → TookAndMade r c u v
 step-takes r c n u v e =
-    let one = option_and_then-some (λ (t : TRule). option_and_then (rewritten r c t) (matched r t.left u)) (slice_get r.trules n) v e in
+    let one = option_and_then-some (λ (t : TRule). option_and_then (rewritten r c t) (trule_match r t u)) (slice_get r.trules n) v e in
     let t : TRule = one.0 in
-    let two = option_and_then-some (rewritten r c t) (matched r t.left u) v one.2 in
-    let m : Matched = two.0 in
-    let three = option_map-some (λ (env : Env). made r.operators env.descs (zip (streams t.left) m.streams) t.right) (trule_run r c t m.slots) v two.2 in
-    record { rule = t; place = n; there = one.1; match = m; matches = two.1; env = three.0; runs = three.1; makes = three.2 }
+    let two = option_and_then-some (rewritten r c t) (trule_match r t u) v one.2 in
+    let m : Matched (Tree Label) = two.0 in
+    let three = option_map-some (λ (ds : List Desc). (tree_with m.streams (right_side r.operators t.left t.right) ds).0) (trule_made r c t m.slots) v two.2 in
+    record { rule = t; place = n; there = one.1; match = m; matches = two.1; descs = three.0; runs = three.1; makes = three.2 }
 
 -- no enforcer stands on the left side, nor at the root of the right side
 sides-plain : (a b c : Bool) → (a && not b && not c) ≡ true → (b ≡ false) × (c ≡ false)
@@ -133,11 +135,14 @@ step-apart r c rooted sides n u v e =
     let t : TRule = s.rule in
     let roots = rooted s.place t s.there in
     let sound = passes-at (is_sound_trule r) r.trules s.place t sides.trules s.there in
-    let plain = sides-plain (are_numbers_distinct (streams t.left)) (any_node (is_left_enforcer r.irules) t.left) (is_right_enforcer r.irules (label t.right)) sound in
+    let plain = sides-plain (are_numbers_distinct (stream_numbers t.left)) (any_node (is_left_enforcer r.irules) t.left) (is_right_enforcer r.irules (label t.right)) sound in
     let plain_left : is_enforcer r.irules roots.left_op ≡ false = or_first _ (any_nodes (is_left_enforcer r.irules) roots.left_inputs) (ap (any_node (is_left_enforcer r.irules)) (sym roots.left) ∙ plain.0) in
     let plain_right : is_enforcer r.irules roots.right_op ≡ false = ap (λ (x : Tree RightLabel). is_right_enforcer r.irules (label x)) (sym roots.right) ∙ plain.1 in
-    let took = matched-plain r roots.left_op roots.left_desc roots.left_inputs u s.match plain_left (ap (λ (x : Tree LeftLabel). matched r x u) (sym roots.left) ∙ s.matches) in
-    let makes = made-plain r s.env.descs (zip (streams t.left) s.match.streams) roots.right_op roots.right_desc roots.right_inputs plain_right in
-    let same : made r.operators s.env.descs (zip (streams t.left) s.match.streams) (node (RightLabel.operator roots.right_op roots.right_desc) roots.right_inputs) ≡ v =
-    ap (made r.operators s.env.descs (zip (streams t.left) s.match.streams)) (sym roots.right) ∙ s.makes in
+    let ns = stream_numbers t.left in
+    let left_side_is : left_side r.operators t.left ≡ node (side.operator (operator_at r.operators roots.left_op)) (left_sides_in r.operators ns roots.left_inputs) = ap (left_side_in r.operators ns) roots.left in
+    let right_side_is : right_side r.operators t.left t.right ≡ node (side.operator (operator_at r.operators roots.right_op)) (right_sides_in r.operators ns roots.right_inputs) = ap (right_side_in r.operators ns) roots.right in
+    let took = matched-op r (operator_at r.operators roots.left_op) (left_sides_in r.operators ns roots.left_inputs) u s.match (at_plain r r.operators roots.left_op plain_left) (ap (λ (p : Side). matched (tree_roots r) p u) (sym left_side_is) ∙ s.matches) in
+    let makes = made-op r s.match.streams (operator_at r.operators roots.right_op) (right_sides_in r.operators ns roots.right_inputs) s.descs (at_plain r r.operators roots.right_op plain_right) in
+    let same : (tree_with s.match.streams (node (side.operator (operator_at r.operators roots.right_op)) (right_sides_in r.operators ns roots.right_inputs)) s.descs).0 ≡ v =
+    ap (λ (p : Side). (tree_with s.match.streams p s.descs).0) (sym right_side_is) ∙ s.makes in
     (not_both _ took, not_both _ (ap (λ (x : Tree Label). is_enforcing r (label x)) (sym same) ∙ makes))

@@ -29,13 +29,13 @@ use Rattle.pr_value.specs.declared.memory.Memory.{Memory}
 use Rattle.pr_value.specs.declared.property.Property.{Property}
 use Rattle.query_tree.proofs.CostLaws.{AreFree, free-desc_in, free-run}
 use Rattle.query_tree.specs.Built.{built_operator}
-use Rattle.query_tree.specs.Query.{initial_desc, operator_named, query_tree, query_trees, with_settings}
+use Rattle.query_tree.specs.Query.{initial_desc, operator_named, operator_scope, query_tree, query_trees, with_settings}
 use Rattle.query_tree.proofs.FoundLaws.{view-IsDesc}
 use Rattle.query_tree.proofs.PartLaws.{inputs_of-list}
 use Rattle.query_tree.specs.Faultless.{IsFaultless, IsRight}
 use Rattle.query_tree.specs.Refusals.{IsTold, is_unknown, named_if, unknown_file, wrong_arity}
-use Rattle.query_tree.specs.Scopes.{Scope, env_over, operator_scope}
-use Rattle.query_tree.specs.Steps.{operator_at}
+use Rattle.rule_runs.specs.Runs.{Scope, env_over}
+use Rattle.rule_runs.specs.Sides.{operator_at}
 use Rattle.query_tree.specs.Trees.{IsDesc, IsFree, IsTree, AreTrees}
 use Rattle.query_tree.specs.Views.{seen, view_in}
 use Rattle.rule_ast.specs.CostForms.{cost_name}

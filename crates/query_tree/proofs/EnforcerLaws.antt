@@ -17,9 +17,9 @@ use Rattle.pr_value.specs.Repeats.{are_distinct}
 use Rattle.pr_value.specs.Symbols.{Symbol}
 use Rattle.pr_value.specs.SymbolSets.{contains}
 use Rattle.pr_value.specs.Trees.{Tree, Trees, node, nil, cons, label, list_of}
+use Rattle.rule_ast.specs.Descs.{stream_numbers, streams_numbers}
 use Rattle.rule_ast.specs.Roles.{has_root, is_enforcer, is_null, leads_to_null}
-use Rattle.rule_ast.specs.Seen.{seen_irule, seen_operator}
-use Rattle.rule_ast.specs.declared.parts.IRule as irule
+use Rattle.rule_ast.specs.Seen.{seen_operator}
 use Rattle.rule_ast.specs.declared.parts.Operator as rust
 use Rattle.rule_ast.specs.declared.sides.AlgName.{AlgName}
 use Rattle.rule_ast.specs.declared.sides.AlgName.TheVariants as alg
@@ -27,10 +27,9 @@ use Rattle.rule_ast.specs.declared.parts.Algorithm.{Algorithm}
 use Rattle.rule_ast.specs.Syntax.{LeftLabel, Operator, IRule, Rules}
 use Rattle.rule_types.specs.AcceptedLaws.{HasArities, HasSoundSides, is_flat, is_sound_irule, is_stream}
 use Rattle.rule_types.specs.Conditions.{algorithm_takes, are_numbers_distinct, operator_names, same_numbers, takes, wrong_in_irule, wrong_left}
-use Rattle.rule_types.specs.Uses.{any_node, any_nodes, streams, streams_of}
-use Rattle.query_tree.proofs.BareLaws.{IsBare, AreBare, seen_left-bare}
+use Rattle.rule_types.specs.Uses.{any_node, any_nodes}
 use Rattle.std.proofs.lemmas.Bool.{not-false}
-use Rattle.query_tree.proofs.MadeLaws.{contains-this}
+use Rattle.rule_runs.proofs.AskedLaws.{contains-this}
 use Rattle.query_tree.specs.Equality as spec
 
 -- ---- as the code knows them
@@ -118,56 +117,43 @@ same-long (m ∷ ms) [] e = absurd (false≢true e)
 same-long (m ∷ ms) (n ∷ ns) e = ap suc (same-long ms ns (second_so _ _ e))
 
 -- flat inputs have a stream each
-flat-long : (ls : Trees LeftLabel) → AreBare ls → list_all is_stream (list_of ls) ≡ true → length (streams_of ls) ≡ length (list_of ls)
-flat-long nil bare flat = refl
-flat-long (cons (node (LeftLabel.operator o d) ks) ls) bare flat = absurd (false≢true (first_so false (list_all is_stream (list_of ls)) flat))
-flat-long (cons (node (LeftLabel.stream n d) ks) ls) bare flat =
-    let rest = flat-long ls bare.1 (second_so true (list_all is_stream (list_of ls)) flat) in
-    let none : length (streams_of ks) ≡ 0 = ap (λ (xs : Trees LeftLabel). length (streams_of xs)) bare.0 in
-    let all = length-append (streams_of ks) (streams_of ls) in
-    omega (arith, rest, none, all)
+flat-long : (ls : Trees LeftLabel) → list_all is_stream (list_of ls) ≡ true → length (streams_numbers ls) ≡ length (list_of ls)
+flat-long nil flat = refl
+flat-long (cons (node (LeftLabel.operator o d) ks) ls) flat = absurd (false≢true (first_so false (list_all is_stream (list_of ls)) flat))
+flat-long (cons (node (LeftLabel.stream n d) ks) ls) flat = ap suc (flat-long ls (second_so true (list_all is_stream (list_of ls)) flat))
 
 null-one : (algorithms : List Algorithm) (a : AlgName) (n : ℕ) → is_null a ≡ true → algorithm_takes algorithms a n ≡ true → n ≡ 1
 null-one algorithms alg.Null n null e = (Decides-eqb n 1).0 e
 null-one algorithms (alg.Named a) n null e = absurd (false≢true null)
 
 -- the operator at the root of a flat side takes as many inputs as there are streams
-root-takes : (r : Rules) (l : Tree LeftLabel) (name : Symbol) → IsBare l → is_flat l ≡ true → has_root name (label l) ≡ true → any_node (wrong_left r) l ≡ false → takes r.operators name (length (streams l)) ≡ true
-root-takes r (node (LeftLabel.operator o d) ls) name bare flat root right =
-    subst (λ k. takes r.operators name k ≡ true) (sym (flat-long ls bare flat))
+root-takes : (r : Rules) (l : Tree LeftLabel) (name : Symbol) → is_flat l ≡ true → has_root name (label l) ≡ true → any_node (wrong_left r) l ≡ false → takes r.operators name (length (stream_numbers l)) ≡ true
+root-takes r (node (LeftLabel.operator o d) ls) name flat root right =
+    subst (λ k. takes r.operators name k ≡ true) (sym (flat-long ls flat))
     (subst (λ (s : Symbol). takes r.operators s (length (list_of ls)) ≡ true) (bytes_eq-same o name root) (not-false _ (or_first _ (any_nodes (wrong_left r) ls) right)))
-root-takes r (node (LeftLabel.stream n d) ls) name bare flat root right = absurd (false≢true root)
+root-takes r (node (LeftLabel.stream n d) ls) name flat root right = absurd (false≢true root)
 
 not_wrong : (b : Bool) → not b ≡ true → b ≡ false
 not_wrong true e = absurd (false≢true e)
 not_wrong false e = refl
-
--- streams of the left sides have no inputs
-abbrev pub HasBareLefts : List IRule → Type 0
-HasBareLefts is = (n : ℕ) (i : IRule) → slice_get is n ≡ Some i → IsBare i.left
-
-pub seen_irules-bare : (is : List irule.IRule) → HasBareLefts (map seen_irule is)
-seen_irules-bare [] n i at = cc
-seen_irules-bare (j ∷ is) zero i at = subst (λ (x : IRule). IsBare x.left) (some-same at) (seen_left-bare j.left)
-seen_irules-bare (j ∷ is) (suc n) i at = seen_irules-bare is n i at
 
 flat-parts : (a b c : Bool) → (a && b && c) ≡ true → (a ≡ true) × (c ≡ true)
 flat-parts true true c e = (refl, e)
 flat-parts true false c e = absurd (false≢true e)
 flat-parts false b c e = absurd (false≢true e)
 
-pub enforcer-one : (r : Rules) → are_distinct (operator_names r.operators) ≡ true → HasArities r → HasSoundSides r → HasBareLefts r.irules → (op : ℕ) (o : Operator) → slice_get r.operators op ≡ Some o → spec.enforces r op ≡ true → length o.views ≡ 1
-enforcer-one r distinct arities sides bare op o at enforces =
+pub enforcer-one : (r : Rules) → are_distinct (operator_names r.operators) ≡ true → HasArities r → HasSoundSides r → (op : ℕ) (o : Operator) → slice_get r.operators op ≡ Some o → spec.enforces r op ≡ true → length o.views ≡ 1
+enforcer-one r distinct arities sides op o at enforces =
     let enforcing : is_enforcer r.irules o.name ≡ true = ap (spec.leads_to_null r) (sym at) ∙ enforces in
     let found = among (leads_to_null o.name) r.irules enforcing in
     let i : IRule = found.one in
     let null : is_null i.right.alg ≡ true = first_so _ _ found.meets in
     let root : has_root o.name (label i.left) ≡ true = second_so (is_null i.right.alg) _ found.meets in
     let right : wrong_in_irule r i ≡ false = not_wrong (wrong_in_irule r i) (passes-at (λ (x : IRule). not (wrong_in_irule r x)) r.irules found.place i arities.irules found.at) in
-    let sound = flat-parts (is_flat i.left) (are_numbers_distinct (streams i.left)) (same_numbers (map (λ s. s.number) i.right.inputs) (streams i.left)) (passes-at is_sound_irule r.irules found.place i sides.irules found.at) in
+    let sound = flat-parts (is_flat i.left) (are_numbers_distinct (stream_numbers i.left)) (same_numbers (map (λ s. s.number) i.right.inputs) (stream_numbers i.left)) (passes-at is_sound_irule r.irules found.place i sides.irules found.at) in
     let one : length i.right.inputs ≡ 1 = null-one r.algorithms i.right.alg (length i.right.inputs) null (not-false _ (or_second (any_node (wrong_left r) i.left) _ right)) in
-    let long : length (map (λ s. s.number) i.right.inputs) ≡ length (streams i.left) = same-long _ (streams i.left) sound.1 in
+    let long : length (map (λ s. s.number) i.right.inputs) ≡ length (stream_numbers i.left) = same-long _ (stream_numbers i.left) sound.1 in
     let mapped : length (map (λ s. s.number) i.right.inputs) ≡ length i.right.inputs = length-map i.right.inputs (λ s. s.number) in
-    let count : length (streams i.left) ≡ 1 = omega (arith, one, long, mapped) in
+    let count : length (stream_numbers i.left) ≡ 1 = omega (arith, one, long, mapped) in
     takes-at r.operators op o 1 distinct at
-    (subst (λ k. takes r.operators o.name k ≡ true) count (root-takes r i.left o.name (bare found.place i found.at) sound.0 root (or_first (any_node (wrong_left r) i.left) _ right)))
+    (subst (λ k. takes r.operators o.name k ≡ true) count (root-takes r i.left o.name sound.0 root (or_first (any_node (wrong_left r) i.left) _ right)))

@@ -1,16 +1,14 @@
--- What is found in a tree of the rules: descriptors that fit and cost nothing, and trees of the rules.
+-- What is matched in a tree of the rules: descriptors that fit and cost nothing, and trees of the rules.
 use Rattle.std.proofs.Common.{◌≡◌, Bool, true, false, cond, List, [], ◌∷◌, ◌++◌, length, map, Option, Some, None, option_map, refl, ap, sym, ◌∙◌, subst}
-use Rattle.std.specs.Prelude.{zip, slice_get}
 use Rattle.std.specs.Cmp.{first_so, second_so}
 use Rattle.std.specs.Cmp.Derive.{both_true}
 use Rattle.std.specs.List.{list_all, AllByRecursion as Every}
 use Rattle.std.specs.Str.{bytes_eq}
 use Rattle.std.proofs.lemmas.Bool.{false≢true}
 use Rattle.std.proofs.lemmas.List.{length-map}
-use Rattle.pr_value.proofs.Shelf.{cons-first, cons-rest, option_map-some, option_and_then-some}
-use Rattle.pr_value.proofs.ZipLaws.{firsts, seconds}
+use Rattle.pr_value.proofs.Shelf.{option_map-some, option_and_then-some}
 use Rattle.pr_value.specs.Symbols.{Symbol}
-use Rattle.pr_value.specs.Trees.{Tree, Trees, node, nil, cons}
+use Rattle.pr_value.specs.Trees.{Tree, Trees, node, nil, cons, list_of}
 use Rattle.pr_value.specs.Values.{default_of, has_kind}
 use Rattle.pr_value.specs.declared.kind.Kind.{Kind}
 use Rattle.pr_value.specs.declared.kind.Kind.TheVariants as kind
@@ -21,15 +19,19 @@ use Rattle.action_eval.proofs.TypeLaws.{some-same}
 use Rattle.catalog.specs.Contents.{Catalog}
 use Rattle.descriptor_types.proofs.FitLaws.{fits-only}
 use Rattle.descriptor_types.specs.Descriptors.{Desc, Mask, fits, only, value_of}
-use Rattle.descriptor_types.specs.Labels.{Label, file, operator, desc_of}
+use Rattle.descriptor_types.specs.Labels.{Label, desc_in, desc_of}
 use Rattle.property_classes.specs.Classes.{classes_of, is_seen}
 use Rattle.rule_ast.specs.CostForms.{cost_name}
 use Rattle.rule_ast.specs.Roles.{class_of}
 use Rattle.rule_ast.specs.Syntax.{LeftLabel, Rules}
-use Rattle.rule_types.specs.Uses.{streams}
-use Rattle.query_tree.specs.Applied.{IsFound}
-use Rattle.query_tree.specs.Found.{Found, Tells, nothing}
-use Rattle.query_tree.specs.Matches.{Matched, matched, all_matched, and_match, with_node, is_named}
+use Rattle.rule_ast.specs.Descs.{stream_numbers}
+use Rattle.rule_runs.proofs.WholeLaws.{chosen, left-operators, left-streams, matched-whole}
+use Rattle.rule_runs.specs.Conditions.{AreSlotsOf}
+use Rattle.rule_runs.specs.Matching.{Matched, matched, all_matched, and_match, with_node, is_number}
+use Rattle.rule_runs.specs.Sides as side
+use Rattle.rule_runs.specs.Sides.{Side, SideLabel, left_side}
+use Rattle.query_tree.specs.Matches.{IsMatchOf}
+use Rattle.query_tree.specs.Steps.{op_in, tree_roots}
 use Rattle.query_tree.specs.Trees.{IsDesc, IsTree, AreTrees}
 use Rattle.query_tree.specs.Views.{seen, view_in}
 
@@ -79,61 +81,64 @@ pub every-append : {X : Type 0} (P : X → Type 0) (xs ys : List X) → Every P 
 every-append P [] ys all others = others
 every-append P (x ∷ xs) ys all others = (all.0, every-append P xs ys all.1 others)
 
-abbrev pub AreOf : Rules → Catalog → Matched → Type 0
-AreOf r c m = Every (IsDesc r) m.slots × Every (IsTree r c) m.streams
+-- descriptors and trees of the rules
+pub record AreOf (r : Rules) (c : Catalog) (m : Matched (Tree Label)) : Type 0 where
+  pub nodes : Every (IsDesc r) m.slots.nodes
+  pub views : Every (IsDesc r) m.slots.streams
+  pub trees : Every (IsTree r c) m.streams
 
-chosen : {X : Type 0} (b : Bool) (o : Option X) (x : X) → cond b o None ≡ Some x → o ≡ Some x
-chosen true o x e = e
-chosen false o x e = cc
+with_node-AreOf : (r : Rules) (c : Catalog) (d : Desc) (m n : Matched (Tree Label)) → IsDesc r d → AreOf r c m → with_node d m ≡ n → AreOf r c n
+with_node-AreOf r c d m n is of same = subst (AreOf r c) same (record { nodes = (is, of.nodes); views = of.views; trees = of.trees })
 
-with_node-AreOf : (r : Rules) (c : Catalog) (d : Desc) (m n : Matched) → IsDesc r d → AreOf r c m → with_node d m ≡ n → AreOf r c n
-with_node-AreOf r c d m n is of same = subst (AreOf r c) same (every-append (IsDesc r) m.slots (d ∷ []) of.0 (is, tt), of.1)
-
-and_match-AreOf : (r : Rules) (c : Catalog) (m n k : Matched) → AreOf r c m → AreOf r c n → and_match m n ≡ k → AreOf r c k
+and_match-AreOf : (r : Rules) (c : Catalog) (m n k : Matched (Tree Label)) → AreOf r c m → AreOf r c n → and_match m n ≡ k → AreOf r c k
 and_match-AreOf r c m n k of others same =
-    subst (AreOf r c) same (every-append (IsDesc r) m.slots n.slots of.0 others.0, every-append (IsTree r c) m.streams n.streams of.1 others.1)
+    subst (AreOf r c) same (record {
+      nodes = every-append (IsDesc r) m.slots.nodes n.slots.nodes of.nodes others.nodes;
+      views = every-append (IsDesc r) m.slots.streams n.slots.streams of.views others.views;
+      trees = every-append (IsTree r c) m.streams n.streams of.trees others.trees;
+    })
 
-mutual
-  pub matched-AreOf : (r : Rules) (c : Catalog) (l : Tree LeftLabel) (t : Tree Label) (m : Matched) → IsTree r c t → matched r l t ≡ Some m → AreOf r c m
-  matched-AreOf r c (node (LeftLabel.stream n d) ls) t m is e = subst (AreOf r c) (some-same e) ((view-IsDesc r c t is, tt), (is, tt))
-  matched-AreOf r c (node (LeftLabel.operator o d) ls) (node (operator op desc) ts) m is e =
-      let found = option_map-some (with_node desc) (all_matched r ls ts) m (chosen (is_named (slice_get r.operators op) o) (option_map (with_node desc) (all_matched r ls ts)) m e) in
-      with_node-AreOf r c desc found.0 m is.0 (all_matched-AreOf r c ls ts found.0 is.2 found.1) found.2
-  matched-AreOf r c (node (LeftLabel.operator o d) ls) (node (file name desc) ts) m is e = cc
+module _ (r : Rules) (c : Catalog) where
+  mutual
+    pub matched-AreOf : (p : Side) (t : Tree Label) (m : Matched (Tree Label)) → IsTree r c t → matched (tree_roots r) p t ≡ Some m → AreOf r c m
+    matched-AreOf (node (side.stream n) ls) t m is e = subst (AreOf r c) (some-same e) (record { nodes = tt; views = (view-IsDesc r c t is, tt); trees = (is, tt) })
+    matched-AreOf (node (side.operator op) ls) (node l ts) m is e =
+        let found = option_map-some (with_node (desc_in l)) (all_matched (tree_roots r) ls (list_of ts)) m (chosen (is_number (op_in l) op) (option_map (with_node (desc_in l)) (all_matched (tree_roots r) ls (list_of ts))) m e) in
+        with_node-AreOf r c (desc_in l) found.0 m is.0 (all_matched-AreOf ls ts found.0 is.2 found.1) found.2
 
-  pub all_matched-AreOf : (r : Rules) (c : Catalog) (ls : Trees LeftLabel) (ts : Trees Label) (m : Matched) → AreTrees r c ts → all_matched r ls ts ≡ Some m → AreOf r c m
-  all_matched-AreOf r c nil nil m are e = subst (AreOf r c) (some-same e) (tt, tt)
-  all_matched-AreOf r c nil (cons t ts) m are e = cc
-  all_matched-AreOf r c (cons l ls) nil m are e = cc
-  all_matched-AreOf r c (cons l ls) (cons t ts) m are e =
-      let one = option_and_then-some (λ (k : Matched). option_map (and_match k) (all_matched r ls ts)) (matched r l t) m e in
-      let others = option_map-some (and_match one.0) (all_matched r ls ts) m one.2 in
-      and_match-AreOf r c one.0 others.0 m (matched-AreOf r c l t one.0 are.0 one.1) (all_matched-AreOf r c ls ts others.0 are.1 others.1) others.2
+    pub all_matched-AreOf : (ps : Trees SideLabel) (ts : Trees Label) (m : Matched (Tree Label)) → AreTrees r c ts → all_matched (tree_roots r) ps (list_of ts) ≡ Some m → AreOf r c m
+    all_matched-AreOf nil nil m are e = subst (AreOf r c) (some-same e) (record { nodes = tt; views = tt; trees = tt })
+    all_matched-AreOf nil (cons t ts) m are e = cc
+    all_matched-AreOf (cons p ps) nil m are e = cc
+    all_matched-AreOf (cons p ps) (cons t ts) m are e =
+        let one = option_and_then-some (λ (k : Matched (Tree Label)). option_map (and_match k) (all_matched (tree_roots r) ps (list_of ts))) (matched (tree_roots r) p t) m e in
+        let others = option_map-some (and_match one.0) (all_matched (tree_roots r) ps (list_of ts)) m one.2 in
+        and_match-AreOf r c one.0 others.0 m (matched-AreOf p t one.0 are.0 one.1) (all_matched-AreOf ps ts others.0 are.1 others.1) others.2
 
--- ---- what is found
-
-every-seconds : {X Y : Type 0} (P : Y → Type 0) (ps : List (X × Y)) (ys : List Y) → ys ≡ map (λ (p : X × Y). p.1) ps → Every P ys → Every (λ (p : X × Y). P p.1) ps
-every-seconds P [] ys e all = tt
-every-seconds P (p ∷ ps) [] e all = cc
-every-seconds P (p ∷ ps) (y ∷ ys) e all =
-    let first : y ≡ p.1 = cons-first y p.1 ys (map (λ q. q.1) ps) e in
-    let rest : ys ≡ map (λ q. q.1) ps = cons-rest y p.1 ys (map (λ q. q.1) ps) e in
-    (subst P first all.0, every-seconds P ps ys rest all.1)
-
-pub found-IsFound : (r : Rules) (c : Catalog) (l : Tree LeftLabel) (t : Tree Label) (f : Found) → IsTree r c t → Tells true r l t nothing f → IsFound r c l f
-found-IsFound r c l t f is tells =
-    let m : Matched = tells.0 in
-    let b = tells.2 in
-    let of = matched-AreOf r c l t m is tells.1 in
-    let long : length (streams l) ≡ length m.streams = sym b.as_many_streams in
-    record {
-      as_many = ap length b.slots ∙ b.as_many_slots;
-      numbers = ap (map (λ s. s.0)) b.streams ∙ sym (firsts (streams l) m.streams long);
-      slots = subst (Every (IsDesc r)) (sym b.slots) of.0;
-      trees = subst (Every (λ s. IsTree r c s.1)) (sym b.streams) (every-seconds (IsTree r c) (zip (streams l) m.streams) m.streams (seconds (streams l) m.streams long) of.1);
-    }
+  -- what a left side matches in a tree of the rules
+  pub match-IsMatchOf : (l : Tree LeftLabel) (t : Tree Label) (m : Matched (Tree Label)) → IsTree r c t → matched (tree_roots r) (left_side r.operators l) t ≡ Some m → IsMatchOf r c l m
+  match-IsMatchOf l t m is e =
+      let of = matched-AreOf (left_side r.operators l) t m is e in
+      let whole = matched-whole (tree_roots r) (left_side r.operators l) t m e in
+      let ns = stream_numbers l in
+      record {
+        as_many_nodes = whole.nodes ∙ left-operators r.operators ns l;
+        as_many_views = whole.views ∙ left-streams r.operators ns l;
+        as_many_streams = whole.streams ∙ left-streams r.operators ns l;
+        nodes = of.nodes;
+        views = of.views;
+        trees = of.trees;
+      }
 
 -- the slots fit
 pub every-fits : (r : Rules) (ds : List Desc) → Every (IsDesc r) ds → list_all (fits r.properties) ds ≡ true
 every-fits r [] all = refl
 every-fits r (d ∷ ds) all = both_true all.0.0 (every-fits r ds all.1)
+
+pub match-slots : (r : Rules) (c : Catalog) (l : Tree LeftLabel) (m : Matched (Tree Label)) → IsMatchOf r c l m → AreSlotsOf r l m.slots
+match-slots r c l m is = record {
+  nodes = is.as_many_nodes;
+  streams = is.as_many_views;
+  nodes_fit = every-fits r m.slots.nodes is.nodes;
+  streams_fit = every-fits r m.slots.streams is.views;
+}

@@ -1,5 +1,5 @@
 -- Whether the trees that numbers stand for fit, one after another.
-use Rattle.std.proofs.Common.{◌≡◌, ℕ, ◌+◌, ◌<◌, Bool, true, false, List, [], ◌∷◌, length, map, drop, get_or, Some, refl, ap, sym, ◌∙◌, subst}
+use Rattle.std.proofs.Common.{◌≡◌, ℕ, ◌+◌, ◌<◌, Bool, true, false, List, [], ◌∷◌, length, drop, get_or, Some, refl, ap, sym, ◌∙◌, subst}
 use Rattle.std.specs.Prelude.{◌&&◌, slice_get}
 use Rattle.std.specs.List.{list_all}
 use Rattle.derivation.specs.Stands.{Stands}
@@ -7,12 +7,11 @@ use Rattle.derivation.specs.declared.terms.Term.{Term}
 use Rattle.descriptor_types.specs.Descriptors.{Layout, fits}
 use Rattle.descriptor_types.specs.Labels.{desc_in}
 use Rattle.pr_value.specs.Trees.{Tree}
-use Rattle.query_tree.proofs.MatchLaws.{at_place}
-use Rattle.query_tree.proofs.TermMatchLaws.{opened}
+use Rattle.query_tree.proofs.PlaceLaws.{number_at}
+use Rattle.query_tree.proofs.StandLaws.{opened}
 use Rattle.query_tree.specs.TermFits.{SaysFit, fits_root}
 use Rattle.query_tree.specs.TreeLabels.{plain_label}
 use Rattle.query_tree.specs.declared.labels.TreeLabel.{TreeLabel}
-use Rattle.query_tree.specs.declared.term_matching.StreamTerm as stream
 
 pub root-fits : (layout : Layout) (terms : List (Term TreeLabel)) (n : ℕ) (t : Term TreeLabel) (u : Tree TreeLabel) → slice_get terms n ≡ Some t → Stands terms n u → fits layout (desc_in (plain_label t.label)) ≡ fits_root layout u
 root-fits layout terms n t u at h = let o = opened terms n t u at h in sym (ap (fits_root layout) o.1)
@@ -38,15 +37,15 @@ module _ (layout : Layout) (terms : List (Term TreeLabel)) where
   fits_nothing (u ∷ us) h = absurd h
 
   -- what the rest says is what all say
-  abbrev pub SaysRest : List stream.StreamTerm → ℕ → Type 0
-  SaysRest ss i = (b : Bool) → SaysFit layout terms b (map (λ s. s.term) (drop i ss)) → SaysFit layout terms b (map (λ s. s.term) ss)
+  abbrev pub SaysRest : List ℕ → ℕ → Type 0
+  SaysRest ns i = (b : Bool) → SaysFit layout terms b (drop i ns) → SaysFit layout terms b ns
 
-  module _ (ss : List stream.StreamTerm) (i : ℕ) (s : stream.StreamTerm) (within : i < length ss) (is : s ≡ get_or ss i s) where
-    pub rest_none : RootSays false s.term → SaysRest ss i → SaysFit layout terms false (map (λ x. x.term) ss)
-    rest_none one so_far = so_far false (subst (SaysFit layout terms false) (sym (at_place (λ (x : stream.StreamTerm). x.term) ss i s within is)) (fits_none s.term (map (λ x. x.term) (drop (i + 1) ss)) one))
+  module _ (ns : List ℕ) (i n : ℕ) (within : i < length ns) (is : n ≡ get_or ns i n) where
+    pub rest_none : RootSays false n → SaysRest ns i → SaysFit layout terms false ns
+    rest_none one so_far = so_far false (subst (SaysFit layout terms false) (sym (number_at ns i n within is)) (fits_none n (drop (i + 1) ns) one))
 
-    pub rest_more : RootSays true s.term → SaysRest ss i → SaysRest ss (i + 1)
-    rest_more one so_far b rest = so_far b (subst (SaysFit layout terms b) (sym (at_place (λ (x : stream.StreamTerm). x.term) ss i s within is)) (fits_more b s.term (map (λ x. x.term) (drop (i + 1) ss)) one rest))
+    pub rest_more : RootSays true n → SaysRest ns i → SaysRest ns (i + 1)
+    rest_more one so_far b rest = so_far b (subst (SaysFit layout terms b) (sym (number_at ns i n within is)) (fits_more b n (drop (i + 1) ns) one rest))
 
-  pub rest_all : (ss : List stream.StreamTerm) (i : ℕ) → drop i ss ≡ [] → SaysRest ss i → SaysFit layout terms true (map (λ s. s.term) ss)
-  rest_all ss i none so_far = so_far true (subst (λ (xs : List stream.StreamTerm). SaysFit layout terms true (map (λ s. s.term) xs)) (sym none) fits_nothing)
+  pub rest_all : (ns : List ℕ) (i : ℕ) → drop i ns ≡ [] → SaysRest ns i → SaysFit layout terms true ns
+  rest_all ns i none so_far = so_far true (subst (SaysFit layout terms true) (sym none) fits_nothing)

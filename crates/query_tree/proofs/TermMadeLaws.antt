@@ -1,167 +1,125 @@
--- Terms of what right sides make, one after another.
-use Rattle.std.proofs.Common.{◌≡◌, ℕ, suc, ◌+◌, ◌<◌, ◌≤◌, Bool, true, false, cond, ◌||◌, List, [], ◌∷◌, ◌++◌, length, map, take, drop, get_or, Some, None, refl, ap, sym, ◌∙◌, subst, arith, take_all}
-use Rattle.std.specs.Prelude.{◌==◌, slice_get, zip}
-use Rattle.std.proofs.lemmas.Bool.{false≢true, not-false}
-use Rattle.std.proofs.lemmas.Bool.Decides.{Decides-eqb}
-use Rattle.std.proofs.lemmas.List.{length-map}
-use Rattle.action_eval.proofs.PlainLaws.{or_first, or_second}
-use Rattle.action_eval.specs.Meaning.{desc_in}
+-- Terms of what right sides make, one input after another.
+use Rattle.std.proofs.Common.{◌≡◌, ℕ, zero, suc, ◌+◌, ◌-◌, ◌<◌, ◌≤◌, true, List, [], ◌∷◌, ◌++◌, length, take, drop, get_or, Some, None, unwrap_or, slice_get, refl, ap, sym, ◌∙◌, subst, arith, take_all}
 use Rattle.derivation.proofs.StandsLaws.{keeps_of_take, stand_still}
 use Rattle.derivation.specs.Stands.{Stands, StandAll}
 use Rattle.derivation.specs.Table.{IsOverOne, term}
 use Rattle.derivation.specs.declared.terms.Term.{Term}
 use Rattle.descriptor_types.specs.Descriptors.{Desc}
-use Rattle.descriptor_types.specs.Labels.{operator}
-use Rattle.pr_value.specs.Trees.{Tree, Trees, nil, cons, tree, list_of, trees_of}
-use Rattle.rule_ast.specs.Seen.{seen_right, seen_right_in, right_level, right_input_level}
-use Rattle.rule_ast.specs.Syntax.{RightLabel, Rules}
-use Rattle.rule_ast.specs.declared.sides.Right as right
-use Rattle.rule_ast.specs.declared.sides.Right.{out-Right}
-use Rattle.rule_ast.specs.declared.sides.RightIn as right_in
-use Rattle.rule_ast.specs.declared.sides.RightIn.TheFolds.{fold_out-Right, fold-roll-RightIn}
-use Rattle.rule_ast.specs.declared.sides.RightIn.TheOpen.{RightIn-F}
-use Rattle.rule_ast.specs.declared.sides.RightIn.TheVariants as ins
+use Rattle.descriptor_types.specs.Labels.{file, operator}
+use Rattle.pr_value.proofs.TreeLaws.{list_of_trees_of}
+use Rattle.pr_value.specs.Trees.{Tree, Trees, node, nil, cons, tree, list_of, trees_of}
+use Rattle.rule_ast.specs.Syntax.{Operator, Rules}
+use Rattle.rule_runs.proofs.MakeLaws.{GoesOn, goes-all, goes-first, goes-next, made-long, suffice-rest}
+use Rattle.rule_runs.specs.Laws.{AllSuffice, Suffice}
+use Rattle.rule_runs.specs.Sides as side
+use Rattle.rule_runs.specs.Sides.{Side, SideLabel}
 use Rattle.rule_types.proofs.AcceptedArities.{accepted-arities}
 use Rattle.rule_types.proofs.AcceptedSides.{accepted-sides}
-use Rattle.rule_types.specs.Conditions.{has_number, refused_by, wrong_right}
-use Rattle.rule_types.specs.Uses.{any_node, any_nodes}
+use Rattle.rule_types.specs.Conditions.{refused_by}
 use Rattle.query_tree.proofs.AcceptedFacts.{accepted-operators}
-use Rattle.query_tree.proofs.AddLaws.{map-take, stand_long, stand_none, stand_push, stands_over}
-use Rattle.query_tree.proofs.BuildLaws.{stands-takes}
-use Rattle.query_tree.proofs.EnforcerLaws.{HasBareLefts, enforcer-one}
-use Rattle.query_tree.proofs.MatchLaws.{at_place}
-use Rattle.query_tree.specs.Dressed.{all_made_in, made_in, stream_in}
+use Rattle.query_tree.proofs.AddLaws.{stand_long, stand_none, stand_push, stands_over}
+use Rattle.query_tree.proofs.EnforcerLaws.{enforcer-one}
+use Rattle.query_tree.specs.Dressed.{all_dressed_with, dressed_with}
 use Rattle.query_tree.specs.Equality.{enforces}
-use Rattle.query_tree.specs.Query.{operator_named}
-use Rattle.query_tree.specs.Scopes.{Scope}
-use Rattle.query_tree.specs.Steps.{operator_at}
-use Rattle.query_tree.specs.TermsMade.{StandForMade, StandsForMade, StandsForStream}
+use Rattle.query_tree.specs.TermsMade.{HaveArities, IsOfArities, StandForMade, StandsForMade}
 use Rattle.query_tree.specs.TreeLabels.{dressed_label, is_on_edge}
 use Rattle.query_tree.specs.declared.labels.TreeLabel.{TreeLabel}
-use Rattle.query_tree.specs.declared.term_matching.StreamTerm as stream
 
--- ---- streams
+abbrev pub over : Rules → ℕ → Desc → List (Tree TreeLabel) → Tree TreeLabel
+over r op d ts = tree (dressed_label r (operator op d)) ts
 
-abbrev pub numbers_of : List stream.StreamTerm → List ℕ
-numbers_of = map (λ s. s.number)
+abbrev pub nothing : Rules → Tree TreeLabel
+nothing r = tree (dressed_label r (file [] [])) []
 
-abbrev pub terms_of : List stream.StreamTerm → List ℕ
-terms_of = map (λ s. s.term)
+module _ (r : Rules) (streams : List ℕ) (start : List (Term TreeLabel)) where
+  -- those so far stand for trees, and with what the rest makes these are what all make
+  abbrev pub MadeSoFar : List Side → List Desc → ℕ → List (Term TreeLabel) → List ℕ → List Desc → Type 0
+  MadeSoFar ss ds i now ns rest =
+      (us : List (Tree TreeLabel)) → StandAll start streams (trees_of us) → (done : List (Tree TreeLabel)) × StandAll now ns (trees_of done) × GoesOn (over r) (nothing r) us ss ds i done rest
 
--- what stands for the stream behind others stands for it
-abbrev pub RestStands : List stream.StreamTerm → ℕ → ℕ → Type 0
-RestStands ss i name = (n : ℕ) → StandsForStream (numbers_of (drop i ss)) (terms_of (drop i ss)) name n → StandsForStream (numbers_of ss) (terms_of ss) name n
+  pub made-none : (ss : List Side) (ds : List Desc) (ns : List ℕ) → ns ≡ [] → MadeSoFar ss ds 0 start ns ds
+  made-none ss ds ns none us h = ([], subst (λ ms. StandAll start ms nil) (sym none) (stand_none start), goes-first (over r) (nothing r) us ss ds)
 
-this_stream : (s : stream.StreamTerm) (names nodes : List ℕ) (name : ℕ) → (s.number == name) ≡ true → StandsForStream (s.number ∷ names) (s.term ∷ nodes) name s.term
-unfolding Stands
-this_stream s names nodes name is f terms [] h = absurd h
-this_stream s names nodes name is f terms (u ∷ us) h = subst (λ b. Stands terms s.term (cond b u (stream_in f (zip names us) name))) (sym is) h.0
+  pub made-next : (ss : List Side) (ds rest left : List Desc) (i : ℕ) (s : Side) (old new : List (Term TreeLabel)) (ns ms : List ℕ) (n : ℕ) → drop i ss ≡ s ∷ drop (suc i) ss → take (length start) old ≡ start → take (length old) new ≡ old
+      → MadeSoFar ss ds i old ns rest → StandsForMade r streams old new s rest n left → ms ≡ ns ++ n ∷ [] → MadeSoFar ss ds (i + 1) new ms left
+  made-next ss ds rest left i s old new ns ms n sides kept_before kept so_far one pushed us h =
+      let there = stand_still start old (keeps_of_take start old kept_before) streams (trees_of us) h in
+      let so = so_far us h in
+      let done : List (Tree TreeLabel) = so.0 in
+      let p : Tree TreeLabel × List Desc = dressed_with r us s rest in
+      let this = one us there in
+      let before = stand_still old new (keeps_of_take old new kept) ns (trees_of done) so.1 in
+      let made : (p.0, left) ≡ p = sym (ap (λ (z : List Desc). (p.0, z)) this.1) in
+      (done ++ p.0 ∷ [], subst (λ ks. StandAll new ks (trees_of (done ++ p.0 ∷ []))) (sym pushed) (stand_push new ns done n p.0 before this.0), goes-next (over r) (nothing r) us ss ds rest left i s done p.0 sides made so.2)
 
-other_stream : (s : stream.StreamTerm) (names nodes : List ℕ) (name n : ℕ) → (s.number == name) ≡ false → StandsForStream names nodes name n → StandsForStream (s.number ∷ names) (s.term ∷ nodes) name n
-unfolding Stands
-other_stream s names nodes name n is rest f terms [] h = absurd h
-other_stream s names nodes name n is rest f terms (u ∷ us) h = subst (λ b. Stands terms n (cond b u (stream_in f (zip names us) name))) (sym is) (rest f terms us h.1)
+  pub made-all : (ss : List Side) (ds rest : List Desc) (i : ℕ) (now : List (Term TreeLabel)) (ns : List ℕ) → length ss ≤ i → MadeSoFar ss ds i now ns rest → StandForMade r streams start now (trees_of ss) ds ns rest
+  made-all ss ds rest i now ns past so_far us h =
+      let so = so_far us h in
+      let all = goes-all (over r) (nothing r) us ss ds rest i so.0 past so.2 in
+      (subst (λ (ts : List (Tree TreeLabel)). StandAll now ns (trees_of ts)) (ap (λ (p : List (Tree TreeLabel) × List Desc). p.0) all) so.1, sym (ap (λ (p : List (Tree TreeLabel) × List Desc). p.1) all))
 
-swapped : (m n : ℕ) → (m == n) ≡ false → (n == m) ≡ false
-swapped m n e = by (n == m) refl where
-  by : (b : Bool) → (n == m) ≡ b → b ≡ false
-  by false is = refl
-  by true is = absurd (false≢true (sym e ∙ (Decides-eqb m n).1 (sym ((Decides-eqb n m).0 is))))
-
-module _ (ss : List stream.StreamTerm) (i : ℕ) (s : stream.StreamTerm) (name : ℕ) (within : i < length ss) (is : s ≡ get_or ss i s) where
-  both_lists : (n : ℕ) → StandsForStream (s.number ∷ numbers_of (drop (i + 1) ss)) (s.term ∷ terms_of (drop (i + 1) ss)) name n → StandsForStream (numbers_of (drop i ss)) (terms_of (drop i ss)) name n
-  both_lists n h =
-      subst (λ ns. StandsForStream ns (terms_of (drop i ss)) name n) (sym (at_place (λ (x : stream.StreamTerm). x.number) ss i s within is))
-      (subst (λ ns. StandsForStream (s.number ∷ numbers_of (drop (i + 1) ss)) ns name n) (sym (at_place (λ (x : stream.StreamTerm). x.term) ss i s within is)) h)
-
-  pub stream_here : (s.number == name) ≡ true → RestStands ss i name → StandsForStream (numbers_of ss) (terms_of ss) name s.term
-  stream_here here so_far = so_far s.term (both_lists s.term (this_stream s (numbers_of (drop (i + 1) ss)) (terms_of (drop (i + 1) ss)) name here))
-
-  pub stream_behind : (s.number == name) ≡ false → RestStands ss i name → RestStands ss (i + 1) name
-  stream_behind other so_far n h = so_far n (both_lists n (other_stream s (numbers_of (drop (i + 1) ss)) (terms_of (drop (i + 1) ss)) name n other h))
-
-  -- the number is among the rest
-  pub known_behind : (s.number == name) ≡ false → has_number (numbers_of (drop i ss)) name ≡ true → has_number (numbers_of (drop (i + 1) ss)) name ≡ true
-  known_behind other known =
-      let has = ap (λ ns. has_number ns name) (sym (at_place (λ (x : stream.StreamTerm). x.number) ss i s within is)) ∙ known in
-      ap (λ b. b || has_number (numbers_of (drop (i + 1) ss)) name) (sym (swapped s.number name other)) ∙ has
-
--- ---- right sides
-
-pub seen_operator_right : (x : right.Right) → seen_right x ≡ tree (RightLabel.operator (out-Right x).op (out-Right x).desc) (map seen_right_in (out-Right x).inputs)
-seen_operator_right x = fold_out-Right (Tree RightLabel) (Tree RightLabel) right_input_level right_level x
-
-pub seen_in_stream : (n : ℕ) → seen_right_in (ins.Stream n) ≡ tree (RightLabel.stream n) []
-seen_in_stream n = ap seen_right_in (sym (ins.rolls-Stream n)) ∙ fold-roll-RightIn (Tree RightLabel) (Tree RightLabel) right_input_level right_level (RightIn-F.Stream n)
-
-module _ (r : Rules) (scope : Scope) (names : List ℕ) (us : List (Tree TreeLabel)) where
-  -- what one input makes
-  abbrev pub one_made : right_in.RightIn → Tree TreeLabel
-  one_made x = made_in (dressed_label r) r.operators scope (zip names us) (seen_right_in x)
-
-  pub all_made_in-each : (xs : List right_in.RightIn) → all_made_in (dressed_label r) r.operators scope (zip names us) (trees_of (map seen_right_in xs)) ≡ trees_of (map one_made xs)
-  all_made_in-each [] = refl
-  all_made_in-each (x ∷ xs) = ap (λ ts. cons (one_made x) ts) (all_made_in-each xs)
-
--- those so far stand for what they make
-abbrev pub MadeSoFar : Rules → Scope → List ℕ → List ℕ → List (Term TreeLabel) → List (Term TreeLabel) → List ℕ → List right_in.RightIn → Type 0
-MadeSoFar r scope names nodes start now ns xs = (us : List (Tree TreeLabel)) → StandAll start nodes (trees_of us) → StandAll now ns (trees_of (map (one_made r scope names us) xs))
-
-module _ (r : Rules) (scope : Scope) (names nodes : List ℕ) (start : List (Term TreeLabel)) where
-  pub made-none : (ns : List ℕ) → ns ≡ [] → MadeSoFar r scope names nodes start start ns []
-  made-none ns none us h = subst (λ ms. StandAll start ms nil) (sym none) (stand_none start)
-
-  pub made-next : (old new : List (Term TreeLabel)) (ns ms : List ℕ) (xs : List right_in.RightIn) (i : ℕ) (x : right_in.RightIn) (n : ℕ) → i < length xs → x ≡ get_or xs i x → take (length start) old ≡ start → take (length old) new ≡ old
-      → MadeSoFar r scope names nodes start old ns (take i xs) → StandsForMade r scope names nodes old new (seen_right_in x) n → ms ≡ ns ++ n ∷ [] → MadeSoFar r scope names nodes start new ms (take (i + 1) xs)
-  made-next old new ns ms xs i x n within is kept_before kept so_far one pushed us h =
-      let f : right_in.RightIn → Tree TreeLabel = one_made r scope names us in
-      let there = stand_still start old (keeps_of_take start old kept_before) nodes (trees_of us) h in
-      let before = stand_still old new (keeps_of_take old new kept) ns (trees_of (map f (take i xs))) (so_far us h) in
-      subst (λ ks. StandAll new ks (trees_of (map f (take (i + 1) xs)))) (sym pushed)
-      (subst (λ ts. StandAll new (ns ++ n ∷ []) (trees_of ts)) (sym (map-take f xs i x within is)) (stand_push new ns (map f (take i xs)) n (f x) before (one us there)))
-
-  pub made-all : (now : List (Term TreeLabel)) (ns : List ℕ) (xs : List right_in.RightIn) (i : ℕ) → length xs ≤ i → MadeSoFar r scope names nodes start now ns (take i xs) → StandForMade r scope names nodes start now (trees_of (map seen_right_in xs)) ns
-  made-all now ns xs i done so_far us h =
-      subst (StandAll now ns) (sym (all_made_in-each r scope names us xs))
-      (subst (λ (ys : List right_in.RightIn). StandAll now ns (trees_of (map (one_made r scope names us) ys))) (take_all i xs done) (so_far us h))
+  -- as many numbers as sides
+  pub numbers-many : (us : List (Tree TreeLabel)) (ss : Trees SideLabel) (ds rest : List Desc) (now : List (Term TreeLabel)) (ns : List ℕ) → StandAll start streams (trees_of us) → StandForMade r streams start now ss ds ns rest → length ns ≡ length (list_of ss)
+  numbers-many us ss ds rest now ns h made = stand_long now ns (all_dressed_with r us ss ds).0 (made us h).0 ∙ made-long (over r) (nothing r) us ss ds
 
   -- a node over its inputs
-  pub made-node : (mid new : List (Term TreeLabel)) (x : right.Right) (xs : List right_in.RightIn) (op : ℕ) (d : Desc) (l : TreeLabel) (ns ms : List ℕ) (n : ℕ) → xs ≡ (out-Right x).inputs → op ≡ operator_at r.operators (out-Right x).op → d ≡ desc_in scope (out-Right x).desc
-      → l ≡ dressed_label r (operator op d) → ms ≡ ns → take (length mid) new ≡ mid → slice_get new n ≡ Some (term l ms) → StandForMade r scope names nodes start mid (trees_of (map seen_right_in xs)) ns → StandsForMade r scope names nodes start new (seen_right x) n
-  made-node mid new x xs op d l ns ms n inputs ops descs label same kept at all us h =
-      let make : Trees RightLabel → Trees TreeLabel = all_made_in (dressed_label r) r.operators scope (zip names us) in
-      let row = subst (λ ks. StandAll mid ks (make (trees_of (map seen_right_in (out-Right x).inputs)))) (sym same) (subst (λ (ys : List right_in.RightIn). StandAll mid ns (make (trees_of (map seen_right_in ys)))) inputs (all us h)) in
-      let labels : l ≡ dressed_label r (operator (operator_at r.operators (out-Right x).op) (desc_in scope (out-Right x).desc)) = label ∙ (λ i. dressed_label r (operator (ops i) (descs i))) in
-      subst (λ (y : Tree RightLabel). Stands new n (made_in (dressed_label r) r.operators scope (zip names us) y)) (sym (seen_operator_right x))
-      (stands_over mid new n l (dressed_label r (operator (operator_at r.operators (out-Right x).op) (desc_in scope (out-Right x).desc))) ms (make (trees_of (map seen_right_in (out-Right x).inputs))) kept at labels row)
+  pub made-node : (mid new : List (Term TreeLabel)) (s : Side) (op : ℕ) (ss : List Side) (d : Desc) (descs ds rest : List Desc) (l : TreeLabel) (ns ms : List ℕ) (n : ℕ) → s ≡ tree (side.operator op) ss → descs ≡ d ∷ ds → l ≡ dressed_label r (operator op d) → ms ≡ ns
+      → take (length mid) new ≡ mid → slice_get new n ≡ Some (term l ms) → StandForMade r streams start mid (trees_of ss) ds ns rest → StandsForMade r streams start new s descs n rest
+  made-node mid new s op ss d descs ds rest l ns ms n is split label same kept at all us h =
+      let made = all us h in
+      let rows = trees_of (all_dressed_with r us (trees_of ss) ds).0 in
+      let row = subst (λ ks. StandAll mid ks rows) (sym same) made.0 in
+      subst (λ (p : Tree TreeLabel × List Desc). Stands new n p.0 × (p.1 ≡ rest)) (sym (ap (λ x. dressed_with r us x descs) is ∙ ap (dressed_with r us (tree (side.operator op) ss)) split))
+      (stands_over mid new n l (dressed_label r (operator op d)) ms rows kept at label row, made.1)
 
-  -- as many numbers as inputs
-  pub made-long : (us : List (Tree TreeLabel)) (now : List (Term TreeLabel)) (ns : List ℕ) (xs : List right_in.RightIn) → StandAll start nodes (trees_of us) → StandForMade r scope names nodes start now (trees_of (map seen_right_in xs)) ns → StandAll now ns (trees_of (map (one_made r scope names us) xs))
-  made-long us now ns xs h all = subst (StandAll now ns) (all_made_in-each r scope names us xs) (all us h)
+  -- a stream
+  stand-at : (ns : List ℕ) (us : List (Tree TreeLabel)) (p n : ℕ) → p < length ns → n ≡ get_or ns p n → StandAll start ns (trees_of us) → Stands start n (unwrap_or (slice_get us p) (nothing r))
+  unfolding Stands
+  stand-at [] us p n within at h = absurd (omega (arith, within))
+  stand-at (m ∷ ns) [] p n within at h = absurd h
+  stand-at (m ∷ ns) (u ∷ us) zero n within at h = subst (λ k. Stands start k u) (sym at) h.0
+  stand-at (m ∷ ns) (u ∷ us) (suc p) n within at h = stand-at ns us p n (omega (arith, within)) at h.1
 
-  pub inputs-many : (us : List (Tree TreeLabel)) (now : List (Term TreeLabel)) (ns : List ℕ) (xs : List right_in.RightIn) → StandAll start nodes (trees_of us) → StandForMade r scope names nodes start now (trees_of (map seen_right_in xs)) ns → length ns ≡ length xs
-  inputs-many us now ns xs h all = stand_long now ns (map (one_made r scope names us) xs) (made-long us now ns xs h all) ∙ length-map xs (one_made r scope names us)
+  pub made-stream : (s : Side) (place n : ℕ) (descs : List Desc) → s ≡ tree (side.stream place) [] → place < length streams → n ≡ get_or streams place n → StandsForMade r streams start start s descs n descs
+  made-stream s place n descs is within at us h =
+      subst (λ (p : Tree TreeLabel × List Desc). Stands start n p.0 × (p.1 ≡ descs)) (sym (ap (λ x. dressed_with r us x descs) is)) (stand-at streams us place n within at h, refl)
 
-long-list : (xs : List (Tree RightLabel)) → length (list_of (trees_of xs)) ≡ length xs
-long-list [] = refl
-long-list (x ∷ xs) = ap suc (long-list xs)
-
--- a label of the right side stands over one input where it is on an edge
-pub right_over_one : (r : Rules) (x : right.Right) (l : TreeLabel) (op : ℕ) (d : Desc) (ns : List ℕ) → refused_by r ≡ None → HasBareLefts r.irules → any_node (wrong_right r) (seen_right x) ≡ false → op ≡ operator_at r.operators (out-Right x).op → l ≡ dressed_label r (operator op d)
-    → length ns ≡ length (out-Right x).inputs → IsOverOne is_on_edge (term l ns)
-right_over_one r x l op d ns accepted bare right ops label long on =
+-- a label of a side stands over one input where it is on an edge
+pub side_over_one : (r : Rules) (s : Side) (op : ℕ) (ss : List Side) (d : Desc) (l : TreeLabel) (ns : List ℕ) → refused_by r ≡ None → s ≡ tree (side.operator op) ss → IsOfArities r s → l ≡ dressed_label r (operator op d) → length ns ≡ length (list_of (trees_of ss)) → IsOverOne is_on_edge (term l ns)
+side_over_one r s op ss d l ns accepted is right label long on =
     let enforcing : enforces r op ≡ true = sym (ap is_on_edge label) ∙ on in
-    let wrong = ap (any_node (wrong_right r)) (sym (seen_operator_right x)) ∙ right in
-    let rows = map seen_right_in (out-Right x).inputs in
-    let stands = stands-takes r.operators (out-Right x).op (length (list_of (trees_of rows))) (accepted-operators r accepted) (not-false _ (or_first _ (any_nodes (wrong_right r) (trees_of rows)) wrong)) in
-    let one = enforcer-one r (accepted-operators r accepted) (accepted-arities r accepted) (accepted-sides r accepted) bare op (operator_named r.operators (out-Right x).op) (ap (slice_get r.operators) ops ∙ stands.at) enforcing in
-    let many = stands.views in
-    let listed = long-list rows in
-    let mapped = length-map (out-Right x).inputs seen_right_in in
-    omega (arith, long, one, many, listed, mapped)
+    let here : IsOfArities r (tree (side.operator op) ss) = subst (IsOfArities r) is right in
+    let one = enforcer-one r (accepted-operators r accepted) (accepted-arities r accepted) (accepted-sides r accepted) op here.0.0 here.0.1 enforcing in
+    let many = here.0.2 in
+    omega (arith, long, one, many)
 
--- what is asked of the inputs is asked of the side
-pub node-asked : (asked : RightLabel → ℕ → Bool) (x : right.Right) (xs : List right_in.RightIn) → xs ≡ (out-Right x).inputs → any_node asked (seen_right x) ≡ false → any_nodes asked (trees_of (map seen_right_in xs)) ≡ false
-node-asked asked x xs inputs none =
-    ap (λ (ys : List right_in.RightIn). any_nodes asked (trees_of (map seen_right_in ys))) inputs
-    ∙ or_second _ _ (ap (any_node asked) (sym (seen_operator_right x)) ∙ none)
+-- the arities of the sides from a place on are those of the one there, and of the others
+pub rest-right : (r : Rules) (i : ℕ) (ss : List Side) (s : Side) → drop i ss ≡ s ∷ drop (suc i) ss → HaveArities r (trees_of (drop i ss)) → IsOfArities r s × HaveArities r (trees_of (drop (i + 1) ss))
+rest-right r i ss s sides right =
+    let next : suc i ≡ i + 1 = omega arith in
+    subst (λ (k : ℕ). IsOfArities r s × HaveArities r (trees_of (drop k ss))) next (subst (λ (xs : List Side). HaveArities r (trees_of xs)) sides right)
+
+-- ---- as the code goes through sides
+
+-- what suffices for a node has a descriptor for it
+enough-first : (s : Side) (op k n : ℕ) (ss : List Side) → s ≡ tree (side.operator op) ss → Suffice k n s → 0 < n
+enough-first s op k n ss is enough = let e = (subst (Suffice k n) is enough).nodes in omega (arith, e)
+
+behind-first : (ds : List Desc) (d : Desc) → take (length (d ∷ ds) - 1) ds ≡ ds
+behind-first ds d = let e : length (d ∷ ds) - 1 ≡ length ds = omega arith in ap (λ n. take n ds) e ∙ take_all (length ds) ds (omega arith)
+
+pub split-first : (s : Side) (op k : ℕ) (ss : List Side) (ds : List Desc) (d x : Desc) → s ≡ tree (side.operator op) ss → Suffice k (length ds) s → x ≡ get_or ds 0 x → d ≡ x → ds ≡ d ∷ take (length ds - 1) (drop 1 ds)
+split-first s op k ss [] d x is enough at same = absurd (let e = enough-first s op k 0 ss is enough in omega (arith, e))
+split-first s op k ss (e ∷ es) d x is enough at same = ap (λ y. y ∷ es) (sym (same ∙ at)) ∙ ap (λ ys. d ∷ ys) (sym (behind-first es e))
+
+-- the trees of the streams, later
+pub stand-later : {L : Type 0} (start now : List (Term L)) (ns : List ℕ) (us : List (Tree L)) → take (length start) now ≡ start → StandAll start ns (trees_of us) → StandAll now ns (trees_of us)
+stand-later start now ns us kept h = stand_still start now (keeps_of_take start now kept) ns (trees_of us) h
+
+-- what suffices for the sides behind one
+pub enough-rest : (r : Rules) (streams : List ℕ) (start old new : List (Term TreeLabel)) (us : List (Tree TreeLabel)) (k i n : ℕ) (ss : List Side) (s : Side) (rest left : List Desc) → drop i ss ≡ s ∷ drop (suc i) ss → take (length start) old ≡ start → StandAll start streams (trees_of us)
+    → StandsForMade r streams old new s rest n left → AllSuffice k (length rest) (trees_of (drop i ss)) → AllSuffice k (length left) (trees_of (drop (i + 1) ss))
+enough-rest r streams start old new us k i n ss s rest left sides kept h one enough =
+    let p : Tree TreeLabel × List Desc = dressed_with r us s rest in
+    let made : (p.0, left) ≡ p = sym (ap (λ (z : List Desc). (p.0, z)) (one us (stand-later start old streams us kept h)).1) in
+    suffice-rest (over r) (nothing r) us k i ss s rest left p.0 sides made enough

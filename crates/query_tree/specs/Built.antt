@@ -5,10 +5,10 @@ use Rattle.pr_value.specs.Trees.{Tree, tree}
 use Rattle.catalog.specs.Contents.{Catalog}
 use Rattle.descriptor_types.specs.Labels.{Label, operator}
 use Rattle.query_tree.specs.Query.{initial_desc, operator_named}
-use Rattle.query_tree.specs.Steps.{operator_at}
 use Rattle.query_tree.specs.Views.{view_in}
 use Rattle.rule_ast.specs.declared.query.Setting.{Setting}
 use Rattle.rule_ast.specs.Syntax.{Rules}
+use Rattle.rule_runs.specs.Sides.{operator_at}
 
 -- the operator of that name, with the descriptor that its initializer leaves
 abbrev pub built_operator : Rules → Catalog → Symbol → List Setting → List (Tree Label) → Tree Label

@@ -1,5 +1,5 @@
 -- The tree of a query, bottom-up.
-use Rattle.std.specs.Prelude.{List, [], ◌∷◌, map, unwrap_or, if◌then◌else◌}
+use Rattle.std.specs.Prelude.{List, [], ◌∷◌, ◌++◌, map, zip, unwrap_or, if◌then◌else◌}
 use Rattle.std.specs.Str.{bytes_eq}
 use Rattle.pr_value.specs.Symbols.{Symbol}
 use Rattle.pr_value.specs.SymbolSets.{set_of}
@@ -16,8 +16,8 @@ use Rattle.rule_ast.specs.declared.query.Setting.{Setting}
 use Rattle.rule_ast.specs.Syntax.{QueryLabel, Operator, Rules, Query}
 use Rattle.action_eval.specs.Environments.{after}
 use Rattle.action_eval.specs.Meaning.{desc_in}
-use Rattle.query_tree.specs.Scopes.{env_over, operator_scope}
-use Rattle.query_tree.specs.Steps.{operator_at}
+use Rattle.rule_runs.specs.Runs.{Scope, env_over}
+use Rattle.rule_runs.specs.Sides.{operator_at}
 use Rattle.query_tree.specs.Views.{view_in}
 
 abbrev pub literal_value : Literal → Value
@@ -45,6 +45,10 @@ with_settings layout (s ∷ ss) d = with_settings layout ss (with_value layout s
 abbrev pub operator_named : List Operator → Symbol → Operator
 operator_named [] name = record { name = name; views = []; own = []; init = [] }
 operator_named (o ∷ os) name = if bytes_eq o.name name then o else operator_named os name
+
+-- an operator's views, and then its own descriptor
+abbrev pub operator_scope : Operator → List Desc → Desc → Scope
+operator_scope o views own = zip o.views views ++ (o.own, own) ∷ []
 
 -- the defaults, changed by the settings, and then by the initializer over the inputs' views
 abbrev pub initial_desc : Rules → Catalog → Operator → List Setting → List Desc → Desc

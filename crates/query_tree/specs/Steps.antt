@@ -1,92 +1,88 @@
--- What T-rules make of a tree at its root, and what I-rules ask and cost there.
-use Rattle.std.specs.Prelude.{ℕ, suc, ◌==◌, List, [], ◌∷◌, map, zip, Option, option_map, option_and_then, unwrap_or, slice_get, if◌then◌else◌}
-use Rattle.std.specs.Str.{bytes_eq}
-use Rattle.pr_value.specs.Symbols.{Symbol}
-use Rattle.pr_value.specs.Trees.{Tree, node, Trees, nil, cons, tree}
+-- What T-rules make of a tree at its root, and what I-rules ask and cost there: the slots of the
+-- tree, the rule's run over them, and the right side put together.
+use Rattle.std.specs.Prelude.{ℕ, List, [], Option, Some, None, option_map, option_and_then, slice_get}
+use Rattle.pr_value.specs.Trees.{Tree, Trees, tree, label, inputs}
 use Rattle.catalog.specs.Contents.{Catalog}
 use Rattle.descriptor_types.specs.Descriptors.{Desc, only}
-use Rattle.descriptor_types.specs.Labels.{Label, file, operator}
-use Rattle.rule_ast.specs.CostForms.{cost_name}
-use Rattle.rule_ast.specs.Descs.{names_of}
-use Rattle.rule_ast.specs.Syntax.{Expr, number, RightLabel, Operator, TRule, IRule, Rules}
-use Rattle.rule_types.specs.LaterConditions.{cost_of, but_last}
-use Rattle.rule_types.specs.Uses.{streams}
+use Rattle.descriptor_types.specs.Labels.{Label, file, operator, desc_in}
+use Rattle.rule_ast.specs.Syntax.{TRule, IRule, Rules}
 use Rattle.action_eval.specs.Cost.{IStep}
-use Rattle.action_eval.specs.Environments.{Env, after}
-use Rattle.action_eval.specs.Forms.{form}
-use Rattle.action_eval.specs.Meaning.{desc_in}
-use Rattle.query_tree.specs.Matches.{Matched, matched}
-use Rattle.query_tree.specs.Scopes.{Scope, env_over, trule_scope, irule_scope, tested}
-use Rattle.query_tree.specs.Views.{physical, view_in}
+use Rattle.query_tree.specs.Views.{physical, seen}
+use Rattle.rule_runs.specs.Making.{all_made_with, made, made_with}
+use Rattle.rule_runs.specs.Matching.{Matched, Rooted, matched}
+use Rattle.rule_runs.specs.Runs.{trule_made, irule_run}
+use Rattle.rule_runs.specs.Sides.{Side, SideLabel, left_side, right_side}
 
--- ---- T-rules
+-- ---- trees as a matcher sees them
 
--- the number of the operator of that name: its place of declaration, from 0
-abbrev pub operator_at : List Operator → Symbol → ℕ
-operator_at [] name = 0
-operator_at (o ∷ os) name = if bytes_eq o.name name then 0 else suc (operator_at os name)
+abbrev pub op_in : Label → Option ℕ
+op_in (file name d) = None
+op_in (operator op d) = Some op
 
--- the tree that the stream of that number stands for
-abbrev pub stream_at : List (ℕ × Tree Label) → ℕ → Tree Label
-stream_at [] n = tree (file [] []) []
-stream_at (s ∷ ss) n = if s.0 == n then s.1 else stream_at ss n
+-- labels that show a file or an operator, and are made of one
+module _ {L : Type 0} (shown : L → Label) (label_of : Label → L) where
+  abbrev pub roots_of : Rules → Rooted (Tree L)
+  roots_of r = record {
+    op = λ t. op_in (shown (label t));
+    whole = λ t. desc_in (shown (label t));
+    view = λ t. only r.properties (seen r) (desc_in (shown (label t)));
+    inputs = inputs;
+  }
 
--- a right side with these descriptors at its nodes, and these trees in place of its streams
-module _ (operators : List Operator) (scope : Scope) (trees : List (ℕ × Tree Label)) where
-  abbrev mutual
-    pub made : Tree RightLabel → Tree Label
-    made (node (RightLabel.operator o d) rs) = node (operator (operator_at operators o) (desc_in scope d)) (all_made rs)
-    made (node (RightLabel.stream n) rs) = stream_at trees n
+  -- a right side with these descriptors at its nodes, and these trees in place of its streams
+  abbrev pub tree_made : List (Tree L) → Side → List Desc → Tree L
+  tree_made = made (λ op d ts. tree (label_of (operator op d)) ts) (tree (label_of (file [] [])) [])
 
-    pub all_made : Trees RightLabel → Trees Label
-    all_made nil = nil
-    all_made (cons r rs) = cons (made r) (all_made rs)
+  -- what a rule makes of what its left side matched
+  abbrev pub rewritten_on : Rules → Catalog → TRule → Matched (Tree L) → Option (Tree L)
+  rewritten_on r c t m =
+      option_map (tree_made m.streams (right_side r.operators t.left t.right)) (trule_made r c t m.slots)
 
--- the environment after a rule's statements, over what its left side sees, or none where its test
--- is false
-abbrev pub trule_run : Rules → Catalog → TRule → List Desc → Option Env
-trule_run r c t slots =
-    option_map (λ env. after env c t.body.post) (tested c t.body (env_over r (trule_scope r t slots)))
+  -- at the root of the tree
+  abbrev pub stepped_on : Rules → Catalog → TRule → Tree L → Option (Tree L)
+  stepped_on r c t u =
+      option_and_then (rewritten_on r c t) (matched (roots_of r) (left_side r.operators t.left) u)
+
+-- ---- operator trees
+
+abbrev pub tree_roots : Rules → Rooted (Tree Label)
+tree_roots = roots_of (λ l. l) (λ l. l)
+
+-- sides with these descriptors and trees, and the descriptors that are left
+abbrev pub tree_with : List (Tree Label) → Side → List Desc → Tree Label × List Desc
+tree_with = made_with (λ op d ts. tree (operator op d) ts) (tree (file [] []) [])
+
+abbrev pub trees_with : List (Tree Label) → Trees SideLabel → List Desc → List (Tree Label) × List Desc
+trees_with = all_made_with (λ op d ts. tree (operator op d) ts) (tree (file [] []) [])
 
 -- what a rule makes of what its left side matched
-abbrev pub rewritten : Rules → Catalog → TRule → Matched → Option (Tree Label)
-rewritten r c t m =
-    option_map (λ env. made r.operators env.descs (zip (streams t.left) m.streams) t.right)
-    (trule_run r c t m.slots)
+abbrev pub rewritten : Rules → Catalog → TRule → Matched (Tree Label) → Option (Tree Label)
+rewritten = rewritten_on (λ l. l) (λ l. l)
+
+-- what the left side of a T-rule matches at the root of the tree
+abbrev pub trule_match : Rules → TRule → Tree Label → Option (Matched (Tree Label))
+trule_match r t = matched (tree_roots r) (left_side r.operators t.left)
+
+abbrev pub irule_match : Rules → IRule → Tree Label → Option (Matched (Tree Label))
+irule_match r i = matched (tree_roots r) (left_side r.operators i.left)
 
 -- what the T-rule of that number makes of the tree at its root, or none where it does not apply
 abbrev pub step : Rules → Catalog → ℕ → Tree Label → Option (Tree Label)
-step r c n u =
-    option_and_then (λ t. option_and_then (rewritten r c t) (matched r t.left u)) (slice_get r.trules n)
-
--- ---- I-rules
-
--- the expression that gives the cost
-abbrev pub cost_expr : Rules → IRule → Expr
-cost_expr r i = unwrap_or (cost_of (cost_name r.properties) i) (number 0)
-
--- what is asked of each input: the physical part of its descriptor
-abbrev pub asked_of_inputs : Rules → IRule → Env → List Desc
-asked_of_inputs r i env =
-    map (λ d. only r.properties (physical r) (desc_in env.descs d)) (names_of i.right.inputs)
-
--- after the test: what is asked, the algorithm's descriptor before its cost is set, and the cost
-abbrev pub implemented : Rules → Catalog → IRule → Env → IStep
-implemented r c i env = record {
-  asked = asked_of_inputs r i env;
-  before = desc_in (after env c (but_last i.body.post)).descs i.right.desc;
-  cost = form (names_of i.right.inputs) (after env c (but_last i.body.post)) c (cost_expr r i);
-}
-
--- what a rule asks and costs over what its left side sees, or none where its test is false
-abbrev pub irule_run : Rules → Catalog → IRule → List Desc → List Desc → Option IStep
-irule_run r c i slots views =
-    option_map (implemented r c i) (tested c i.body (env_over r (irule_scope i slots views)))
+step r c n u = option_and_then (λ t. stepped_on (λ l. l) (λ l. l) r c t u) (slice_get r.trules n)
 
 -- what the I-rule of that number asks and costs at the root of the tree, or none where it does not
 -- apply
 abbrev pub i_step : Rules → Catalog → ℕ → Tree Label → Option IStep
 i_step r c n u =
-    option_and_then
-    (λ i. option_and_then (λ m. irule_run r c i m.slots (map (view_in r) m.streams)) (matched r i.left u))
+    option_and_then (λ i. option_and_then (λ m. irule_run r (physical r) c i m.slots) (irule_match r i u))
     (slice_get r.irules n)
+
+-- the trees that the streams of the I-rule of that number stand for, or none where its operators do
+-- not match
+abbrev pub i_streams : Rules → ℕ → Tree Label → Option (List (Tree Label))
+i_streams r n u =
+    option_and_then (λ i. option_map (λ m. m.streams) (irule_match r i u)) (slice_get r.irules n)
+
+-- the tree that its stream of that place stands for
+abbrev pub i_stream_tree : Rules → ℕ → ℕ → Tree Label → Option (Tree Label)
+i_stream_tree r n i u = option_and_then (λ ts. slice_get ts i) (i_streams r n u)

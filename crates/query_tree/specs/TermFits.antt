@@ -4,14 +4,14 @@ use Rattle.std.specs.List.{list_all}
 use Rattle.derivation.specs.Stands.{StandAll}
 use Rattle.derivation.specs.declared.terms.Term.{Term}
 use Rattle.descriptor_types.specs.Descriptors.{Layout, fits}
-use Rattle.descriptor_types.specs.Labels.{desc_of}
-use Rattle.pr_value.specs.Trees.{Tree, trees_of}
-use Rattle.query_tree.specs.Dressed.{plain}
+use Rattle.descriptor_types.specs.Labels.{desc_in}
+use Rattle.pr_value.specs.Trees.{Tree, label, trees_of}
+use Rattle.query_tree.specs.TreeLabels.{plain_label}
 use Rattle.query_tree.specs.declared.labels.TreeLabel.{TreeLabel}
 
 -- the tree fits at its root
 abbrev pub fits_root : Layout → Tree TreeLabel → Bool
-fits_root layout u = fits layout (desc_of (plain u))
+fits_root layout u = fits layout (desc_in (plain_label (label u)))
 
 -- whether all trees that the numbers stand for do
 abbrev pub SaysFit : Layout → List (Term TreeLabel) → Bool → List ℕ → Type 0

@@ -1,31 +1,30 @@
 -- What a T-rule makes at a term.
-use Rattle.std.specs.Prelude.{◌≡◌, ℕ, List, Option, Some, None, option_and_then}
-use Rattle.action_eval.specs.Environments.{Env}
+use Rattle.std.specs.Prelude.{◌≡◌, ℕ, List, Option, Some, None}
 use Rattle.catalog.specs.Contents.{Catalog}
-use Rattle.derivation.specs.Stands.{Stands}
+use Rattle.derivation.specs.Stands.{Stands, StandAll}
 use Rattle.derivation.specs.declared.terms.Term.{Term}
-use Rattle.descriptor_types.specs.Descriptors.{Desc}
-use Rattle.pr_value.specs.Trees.{Tree}
+use Rattle.pr_value.specs.Trees.{Tree, trees_of}
 use Rattle.rule_ast.specs.Syntax.{TRule, Rules}
-use Rattle.query_tree.specs.Dressed.{dressed_rewritten, plain}
-use Rattle.query_tree.specs.Matches.{matched}
-use Rattle.query_tree.specs.Steps.{trule_run}
-use Rattle.query_tree.specs.TermsMade.{StandsForMade}
+use Rattle.rule_runs.specs.declared.slots.Slots.{Slots}
+use Rattle.query_tree.specs.Dressed.{dressed_stepped}
+use Rattle.query_tree.specs.Steps.{rewritten_on}
+use Rattle.query_tree.specs.TreeLabels.{dressed_label, plain_label}
 use Rattle.query_tree.specs.declared.labels.TreeLabel.{TreeLabel}
 
 module _ (r : Rules) (c : Catalog) (t : TRule) where
-  -- what the rule makes of the tree at its root, or none where it does not apply
-  abbrev pub stepped_by : Tree TreeLabel → Option (Tree TreeLabel)
-  stepped_by u = option_and_then (dressed_rewritten r c t u) (matched r t.left (plain u))
-
-  -- the rule's test is false over these slots, or the number stands for what its right side makes
-  abbrev pub Rewrites : List Desc → List ℕ → List ℕ → List (Term TreeLabel) → List (Term TreeLabel) → Option ℕ → Type 0
-  Rewrites slots names nodes old new None = (trule_run r c t slots ≡ None) × (new ≡ old)
-  Rewrites slots names nodes old new (Some n) =
-      (env : Env) × (trule_run r c t slots ≡ Some env) × StandsForMade r env.descs names nodes old new t.right n
+  -- over these trees of its streams the rule makes no tree of what is matched, or that of the number
+  abbrev pub Rewrites : Slots → List ℕ → List (Term TreeLabel) → List (Term TreeLabel) → Option ℕ → Type 0
+  Rewrites slots nodes old new None =
+      ((us : List (Tree TreeLabel)) → rewritten_on plain_label (dressed_label r) r c t (record { slots = slots; streams = us }) ≡ None)
+      × (new ≡ old)
+  Rewrites slots nodes old new (Some n) =
+      (us : List (Tree TreeLabel)) → StandAll old nodes (trees_of us)
+      → (v : Tree TreeLabel) × Stands new n v
+      × (rewritten_on plain_label (dressed_label r) r c t (record { slots = slots; streams = us }) ≡ Some v)
 
   -- the rule makes no tree at the term, or that of this number
   abbrev pub StepsBy : List (Term TreeLabel) → ℕ → List (Term TreeLabel) → Option ℕ → Type 0
-  StepsBy old node new None = ((u : Tree TreeLabel) → Stands old node u → stepped_by u ≡ None) × (new ≡ old)
+  StepsBy old node new None =
+      ((u : Tree TreeLabel) → Stands old node u → dressed_stepped r c t u ≡ None) × (new ≡ old)
   StepsBy old node new (Some n) =
-      (u v : Tree TreeLabel) × Stands old node u × Stands new n v × (stepped_by u ≡ Some v)
+      (u v : Tree TreeLabel) × Stands old node u × Stands new n v × (dressed_stepped r c t u ≡ Some v)

@@ -1,31 +1,35 @@
 -- Terms of what right sides make.
-use Rattle.std.specs.Prelude.{ℕ, List, zip}
+use Rattle.std.specs.Prelude.{◌≡◌, ℕ, List, length, Some, slice_get, ⊤}
 use Rattle.derivation.specs.Stands.{Stands, StandAll}
 use Rattle.derivation.specs.declared.terms.Term.{Term}
-use Rattle.descriptor_types.specs.Labels.{Label}
-use Rattle.pr_value.specs.Trees.{Tree, Trees, trees_of}
-use Rattle.rule_ast.specs.Syntax.{RightLabel, Rules}
-use Rattle.query_tree.specs.Dressed.{all_made_in, made_in, stream_in}
-use Rattle.query_tree.specs.Scopes.{Scope}
-use Rattle.query_tree.specs.TreeLabels.{dressed_label}
+use Rattle.descriptor_types.specs.Descriptors.{Desc}
+use Rattle.pr_value.specs.Trees.{Tree, node, Trees, nil, cons, list_of, trees_of}
+use Rattle.rule_ast.specs.Syntax.{Operator, Rules}
+use Rattle.rule_runs.specs.Sides.{Side, SideLabel, operator, stream}
+use Rattle.query_tree.specs.Dressed.{dressed_with, all_dressed_with}
 use Rattle.query_tree.specs.declared.labels.TreeLabel.{TreeLabel}
 
--- where the terms of the streams stand for trees, the number stands for the tree of this stream
-abbrev pub StandsForStream : List ℕ → List ℕ → ℕ → ℕ → Type 0
-StandsForStream names nodes name n =
-    (f : Label → TreeLabel) (terms : List (Term TreeLabel)) (us : List (Tree TreeLabel))
-    → StandAll terms nodes (trees_of us) → Stands terms n (stream_in f (zip names us) name)
+-- each operator is declared, and stands over as many inputs as it declares
+abbrev mutual
+  pub IsOfArities : Rules → Side → Type 0
+  IsOfArities r (node (operator op) rs) =
+      ((o : Operator) × (slice_get r.operators op ≡ Some o) × (length o.views ≡ length (list_of rs))) × HaveArities r rs
+  IsOfArities r (node (stream n) rs) = ⊤
 
-module _ (r : Rules) (scope : Scope) (names nodes : List ℕ) (old new : List (Term TreeLabel)) where
+  pub HaveArities : Rules → Trees SideLabel → Type 0
+  HaveArities r nil = ⊤
+  HaveArities r (cons s rs) = IsOfArities r s × HaveArities r rs
+
+module _ (r : Rules) (streams : List ℕ) (old new : List (Term TreeLabel)) where
   -- where the terms of the streams stood for trees, the number stands for what the side makes of
-  -- those
-  abbrev pub StandsForMade : Tree RightLabel → ℕ → Type 0
-  StandsForMade x n =
-      (us : List (Tree TreeLabel)) → StandAll old nodes (trees_of us)
-      → Stands new n (made_in (dressed_label r) r.operators scope (zip names us) x)
+  -- those, and these descriptors are left
+  abbrev pub StandsForMade : Side → List Desc → ℕ → List Desc → Type 0
+  StandsForMade s ds n rest =
+      (us : List (Tree TreeLabel)) → StandAll old streams (trees_of us)
+      → Stands new n (dressed_with r us s ds).0 × ((dressed_with r us s ds).1 ≡ rest)
 
   -- and these numbers for what the sides make
-  abbrev pub StandForMade : Trees RightLabel → List ℕ → Type 0
-  StandForMade xs ns =
-      (us : List (Tree TreeLabel)) → StandAll old nodes (trees_of us)
-      → StandAll new ns (all_made_in (dressed_label r) r.operators scope (zip names us) xs)
+  abbrev pub StandForMade : Trees SideLabel → List Desc → List ℕ → List Desc → Type 0
+  StandForMade ss ds ns rest =
+      (us : List (Tree TreeLabel)) → StandAll old streams (trees_of us)
+      → StandAll new ns (trees_of (all_dressed_with r us ss ds).0) × ((all_dressed_with r us ss ds).1 ≡ rest)

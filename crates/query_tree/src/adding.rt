@@ -1,11 +1,12 @@
 // Trees as numbers of terms.
-ghost use Rattle.std.specs.Prelude.{◌≡◌, length, map, take, IfOk};
+ghost use Rattle.std.specs.Prelude.{◌≡◌, length, map, take, IfOk, OnOk};
 ghost use Rattle.catalog.specs.Contents.{Catalog};
 ghost use Rattle.derivation.specs.Stands.{Stands, StandAll};
 ghost use Rattle.descriptor_types.specs.Labels.{seen_tree};
 ghost use Rattle.pr_value.specs.Trees.{trees_of};
 ghost use Rattle.property_classes.specs.Classes.{classes_of};
 ghost use Rattle.query_tree.specs.Dressed.{dressed};
+ghost use Rattle.query_tree.specs.TermsAdded.{AddsParts, AddsPartsOf};
 ghost use Rattle.query_tree.specs.Trees.{IsTree, AreTrees};
 ghost use Rattle.rule_ast.specs.SeenRules.{seen_rules};
 
@@ -30,6 +31,8 @@ fn add_node(
     ensures kept { take (length terms.old) terms.new ≡ terms.old }
     ensures stands { IfOk result
         (λ n. Stands terms.new n (dressed (seen_rules dressing.now.rules.now) (seen_tree tree.now))) }
+    ensures parts { OnOk result (AddsParts
+        (dressed (seen_rules dressing.now.rules.now) (seen_tree tree.now)) terms.old terms.new) }
 {
     match tree {
         Tree::File { name, desc } => {
@@ -61,6 +64,9 @@ fn add_nodes(
     ensures kept { take (length terms.old) terms.new ≡ terms.old }
     ensures stand { IfOk result (λ ns. StandAll terms.new ns.items
         (trees_of (map (λ t. dressed (seen_rules dressing.now.rules.now) (seen_tree t)) trees.now))) }
+    ensures parts { OnOk result (AddsPartsOf
+        (map (λ t. dressed (seen_rules dressing.now.rules.now) (seen_tree t)) trees.now)
+        terms.old terms.new) }
 {
     let mut numbers = Vec::new(alloc);
     for tree in trees {
@@ -70,8 +76,8 @@ fn add_nodes(
     Ok(numbers)
 }
 
-/// Adds the nodes of a tree, and gives the number that stands for it. There may be more terms after
-/// an error.
+/// Adds the nodes of a tree, and nothing else, and gives the number that stands for it. There may be
+/// more terms after an error.
 pub fn add_tree(
     alloc: Global,
     a: &Accepted,
@@ -84,15 +90,11 @@ pub fn add_tree(
     ensures kept { take (length terms.old) terms.new ≡ terms.old }
     ensures stands { IfOk result
         (λ n. Stands terms.new n (dressed (seen_rules a.now.rules) (seen_tree t.now))) }
+    ensures parts { OnOk result (AddsParts (dressed (seen_rules a.now.rules) (seen_tree t.now))
+        terms.old terms.new) }
 {
-    let rules = a.rules();
-    let enforcers = Enforcers::of(alloc, rules)?;
-    let dressing = Dressing {
-        rules,
-        layout: a.layout(),
-        classes: c,
-        enforcers: &enforcers,
-    };
+    let enforcers = Enforcers::of(alloc, a.rules())?;
+    let dressing = Dressing::new(a, c, &enforcers);
     let number = add_node(alloc, &dressing, t, terms)?;
     Ok(number)
 }

@@ -11,20 +11,19 @@ ghost use Rattle.query_tree.specs.Faultless.{IsDeclared, IsRight, IsFaultless, A
 ghost use Rattle.query_tree.specs.Query as spec;
 ghost use Rattle.query_tree.specs.Query.{query_tree};
 ghost use Rattle.query_tree.specs.Refusals.{IsTold, first_setting, is_wrong_setting, refusal_of};
-ghost use Rattle.query_tree.specs.Scopes.{env_over, operator_scope};
+ghost use Rattle.query_tree.specs.Query.{operator_scope};
+ghost use Rattle.rule_runs.specs.Runs.{env_over};
 ghost use Rattle.query_tree.specs.Trees.{IsDesc, IsTree, AreTrees};
 ghost use Rattle.query_tree.specs.Views.{view_in};
 ghost use Rattle.rule_ast.specs.Seen.{seen_operator, seen_query};
 ghost use Rattle.rule_ast.specs.SeenRules.{seen_rules};
 ghost use Rattle.rule_ast.specs.Syntax.{QueryLabel};
 
-use crate::descs::desc_of;
 use crate::files::listed_desc;
 use crate::literals::literal_value;
-use crate::operators::{declared_at, operator_at};
+use crate::operators::declared_at;
 use crate::refusal::QueryRefusal;
 use crate::refusing::refused;
-use crate::scopes::env_over;
 use crate::under::Under;
 use action_eval::{Env, run_statements};
 use catalog::Catalog;
@@ -32,6 +31,7 @@ use descriptor_types::{Desc, Layout, Tree, push_views};
 use pr_value::{Items, Memory, Symbol};
 use property_classes::Classes;
 use rule_ast::{Operator, QueryText, Setting, operator_descs};
+use rule_runs::{desc_of, env_over, operator_at};
 use rule_types::Accepted;
 use std::alloc::Global;
 
@@ -127,7 +127,13 @@ fn initial_env<'a>(
 {
     let names = operator_descs(alloc, operator)?;
     let descs = seen_descs(alloc, under, settings, inputs)?;
-    let env = env_over(alloc, under, names.as_slice(), descs.as_slice())?;
+    let env = env_over(
+        alloc,
+        under.rules,
+        under.layout,
+        names.as_slice(),
+        descs.as_slice(),
+    )?;
     Ok(env)
 }
 

@@ -252,7 +252,8 @@ fn has_wrong_field(properties: &[Property], fields: &Fields) -> bool
     false
 }
 
-fn is_wrong_file(rules: &Rules, catalog: &Catalog, name: &Symbol) -> bool
+/// Does the catalog list a value of another type for a declared property, or one for the cost?
+pub(crate) fn is_wrong_file(rules: &Rules, catalog: &Catalog, name: &Symbol) -> bool
     ensures { result
         ≡ spec.is_wrong_file (seen_rules rules.now) (fields_in (entry catalog.now name.now)) }
 {

@@ -16,11 +16,13 @@ use enforcer_find::Enforcers;
 use pr_value::{Memory, Symbol};
 use property_classes::Classes;
 use rule_ast::Rules;
+use rule_types::Accepted;
 use std::alloc::Global;
 
-/// Accepted rules, with the layout and the classes of their properties, and their enforcers.
+/// What labels are made with: accepted rules, with the layout and the classes of their properties,
+/// and their enforcers.
 #[derive(Clone, Copy)]
-pub(crate) struct Dressing<'a> {
+pub struct Dressing<'a> {
     pub rules: &'a Rules,
     pub layout: &'a Layout,
     pub classes: &'a Classes,
@@ -30,6 +32,24 @@ pub(crate) struct Dressing<'a> {
     pub ghost classed: { classes.now ≡ classes_of (seen_rules rules.now) },
     pub ghost found: { map has_null enforcers.now
         ≡ map (λ o. is_enforcer (map seen_irule rules.now.irules) o.name) rules.now.operators },
+}
+
+impl<'a> Dressing<'a> {
+    /// What labels of an accepted rule set are made with.
+    pub fn new(a: &'a Accepted, c: &'a Classes, enforcers: &'a Enforcers) -> Dressing<'a>
+        requires classes { c.now ≡ classes_of (seen_rules a.now.rules) }
+        requires enforcers { map has_null enforcers.now
+            ≡ map (λ o. is_enforcer (map seen_irule a.now.rules.irules) o.name)
+            a.now.rules.operators }
+        ensures { result.rules.now ≡ a.now.rules }
+    {
+        Dressing {
+            rules: a.rules(),
+            layout: a.layout(),
+            classes: c,
+            enforcers,
+        }
+    }
 }
 
 /// Whether the operator of that number is an enforcer.
@@ -43,8 +63,8 @@ fn enforces(dressing: &Dressing, op: usize) -> bool
     }
 }
 
-/// The label of a file.
-pub(crate) fn file_label(
+/// The label of a file with that descriptor: with the view of it.
+pub fn file_label(
     alloc: Global,
     dressing: &Dressing,
     name: Symbol,
@@ -57,8 +77,9 @@ pub(crate) fn file_label(
     Ok(TreeLabel::File { name, desc, view })
 }
 
-/// The label of an operator.
-pub(crate) fn node_label(
+/// The label of an operator, by its place of declaration from 0, with that descriptor: with the view
+/// of it, and whether the operator is an enforcer.
+pub fn node_label(
     alloc: Global,
     dressing: &Dressing,
     op: usize,

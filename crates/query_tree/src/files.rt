@@ -1,12 +1,17 @@
 // The descriptors of files.
-ghost use Rattle.std.specs.Prelude.{◌≡◌, ◌<◌, length, slice_set, IfNone, IfOk, IfSome, OnOk};
+ghost use Rattle.std.specs.Prelude.{◌≡◌, ◌<◌, not, length, slice_set, IfNone, IfOk, IfSome, IsTrue, OnOk};
 ghost use Rattle.catalog.specs.Contents.{entry, field};
 ghost use Rattle.query_tree.specs.Query as spec;
 ghost use Rattle.query_tree.specs.Query.{fields_in};
+ghost use Rattle.query_tree.specs.Refusals.{is_wrong_file};
+ghost use Rattle.query_tree.specs.Trees.{IsDesc};
+ghost use Rattle.rule_ast.specs.SeenRules.{seen_rules};
 
+use crate::conditions::is_wrong_file;
 use catalog::{Catalog, Fields, FileEntry};
 use descriptor_types::{Desc, Layout};
 use pr_value::{Memory, Property, Symbol};
+use rule_types::Accepted;
 use std::alloc::Global;
 
 /// The value of a property, where the file has one.
@@ -56,4 +61,16 @@ pub fn listed_desc(
         FileEntry::Listed(fields) => file_desc(alloc, layout, fields),
         FileEntry::Free | FileEntry::Unknown => Desc::plain(alloc, layout),
     }
+}
+
+/// Whether the values that the catalog lists for the file fit: each is of the type of its property,
+/// and none is for the cost. Then the file's descriptor has a value of its kind for each property,
+/// and costs 0.
+pub fn is_file_fit(a: &Accepted, catalog: &Catalog, name: &Symbol) -> bool
+    ensures says { result ≡ not (is_wrong_file (seen_rules a.now.rules)
+        (fields_in (entry catalog.now name.now))) }
+    ensures desc { IsTrue result → IsDesc (seen_rules a.now.rules)
+        (spec.file_desc a.now.rules.properties (fields_in (entry catalog.now name.now))) }
+{
+    !is_wrong_file(a.rules(), catalog, name)
 }

@@ -1,5 +1,5 @@
-// Whether what a left side found at a term fits the layout.
-ghost use Rattle.std.specs.Prelude.{◌≡◌, ◌&&◌, List, map};
+// Whether what a left side matched at a term fits the layout.
+ghost use Rattle.std.specs.Prelude.{◌≡◌, ◌&&◌, List};
 ghost use Rattle.std.specs.List.{list_all};
 ghost use Rattle.derivation.specs.Stands.{Stands, StandAll};
 ghost use Rattle.descriptor_types.specs.Descriptors.{fits};
@@ -8,9 +8,10 @@ ghost use Rattle.query_tree.specs.TermFits.{SaysFit, fits_root};
 ghost use Rattle.query_tree.specs.declared.labels.TreeLabel.{TreeLabel};
 
 use crate::labels::TreeLabel;
-use crate::term_matching::{FoundTerms, StreamTerm, label_desc};
+use crate::roots::label_desc;
 use derivation::Terms;
 use descriptor_types::{Desc, Layout};
+use rule_runs::Matched;
 
 fn all_fit(layout: &Layout, descs: &[Desc]) -> bool
     ensures { result ≡ list_all (fits layout.now) descs.now }
@@ -23,33 +24,36 @@ fn all_fit(layout: &Layout, descs: &[Desc]) -> bool
     true
 }
 
-fn is_root_fit(layout: &Layout, terms: &Terms<TreeLabel>, stream: &StreamTerm) -> bool
-    ensures { (u : Tree TreeLabel) → Stands terms.now stream.now.term u → result ≡ fits_root layout.now u }
+fn is_root_fit(layout: &Layout, terms: &Terms<TreeLabel>, node: usize) -> bool
+    ensures { (u : Tree TreeLabel) → Stands terms.now node u → result ≡ fits_root layout.now u }
 {
-    match terms.at(stream.term) {
+    match terms.at(node) {
         Some(term) => label_desc(&term.label).fits(layout),
         None => false,
     }
 }
 
-fn are_roots_fit(layout: &Layout, terms: &Terms<TreeLabel>, streams: &[StreamTerm]) -> bool
-    ensures { SaysFit layout.now terms.now result (map (λ s. s.term) streams.now) }
+fn are_roots_fit(layout: &Layout, terms: &Terms<TreeLabel>, streams: &[usize]) -> bool
+    ensures { SaysFit layout.now terms.now result streams.now }
 {
     for stream in streams {
-        if !is_root_fit(layout, terms, stream) {
+        if !is_root_fit(layout, terms, *stream) {
             return false;
         }
     }
     true
 }
 
-/// Whether the slots, and the trees of the streams at their roots, have a value of its kind for each
-/// property.
-pub(crate) fn is_found_fit(layout: &Layout, terms: &Terms<TreeLabel>, found: &FoundTerms) -> bool
-    ensures { (us : List (Tree TreeLabel))
-        → StandAll terms.now (map (λ s. s.term) found.now.streams.items) (trees_of us)
-        → result ≡ (list_all (fits layout.now) found.now.slots && list_all (fits_root layout.now) us) }
+/// Whether the descriptors of the nodes, and the trees of the streams at their roots, have a value of
+/// its kind for each property.
+pub(crate) fn is_match_fit(
+    layout: &Layout,
+    terms: &Terms<TreeLabel>,
+    found: &Matched<usize>,
+) -> bool
+    ensures { (us : List (Tree TreeLabel)) → StandAll terms.now found.now.streams.items (trees_of us)
+        → result ≡ (list_all (fits layout.now) found.now.slots.nodes && list_all (fits_root layout.now) us) }
 {
-    all_fit(layout, found.slots.as_slice())
+    all_fit(layout, found.slots.nodes.as_slice())
         && are_roots_fit(layout, terms, found.streams.as_slice())
 }

@@ -2,7 +2,7 @@
 use Rattle.std.proofs.Common.{map, ◌≡◌, List, [], ◌∷◌, ◌++◌, flat_map, refl, sym, ap, ◌∙◌, append_assoc}
 use Rattle.pr_value.specs.Symbols.{Symbol}
 use Rattle.pr_value.specs.Trees.{Tree, trees_of}
-use Rattle.rule_ast.specs.Descs.{left_descs, lefts_descs, right_descs, rights_descs, stream_descs, streams_descs}
+use Rattle.rule_ast.specs.Descs.{node_descs, nodes_descs, right_descs, rights_descs, stream_descs, streams_descs}
 use Rattle.rule_ast.specs.Syntax.{LeftLabel, RightLabel}
 use Rattle.rule_ast.specs.Seen.{seen_left, seen_left_in, left_level, left_input_level, seen_right, seen_right_in, right_level, right_input_level}
 use Rattle.rule_ast.specs.declared.sides.Left as left
@@ -14,9 +14,9 @@ use Rattle.rule_ast.specs.declared.sides.Right.{out-Right}
 use Rattle.rule_ast.specs.declared.sides.RightIn as right_in
 use Rattle.rule_ast.specs.declared.sides.RightIn.TheFolds.{fold_out-Right}
 
-lefts_each : (ls : List left_in.LeftIn) → lefts_descs (trees_of (map seen_left_in ls)) ≡ flat_map (λ x. left_descs (seen_left_in x)) ls
-lefts_each [] = refl
-lefts_each (l ∷ ls) = ap (λ ds. left_descs (seen_left_in l) ++ ds) (lefts_each ls)
+nodes_each : (ls : List left_in.LeftIn) → nodes_descs (trees_of (map seen_left_in ls)) ≡ flat_map (λ x. node_descs (seen_left_in x)) ls
+nodes_each [] = refl
+nodes_each (l ∷ ls) = ap (λ ds. node_descs (seen_left_in l) ++ ds) (nodes_each ls)
 
 streams_each : (ls : List left_in.LeftIn) → streams_descs (trees_of (map seen_left_in ls)) ≡ flat_map (λ x. stream_descs (seen_left_in x)) ls
 streams_each [] = refl
@@ -30,12 +30,12 @@ rights_each (r ∷ rs) = ap (λ ds. right_descs (seen_right_in r) ++ ds) (rights
 two_pushed : (old t u a b : List Symbol) → t ≡ old ++ a → u ≡ t ++ b → u ≡ old ++ (a ++ b)
 two_pushed old t u a b e f = f ∙ ap (λ x. x ++ b) e ∙ append_assoc old a b
 
-pub left_pushed : (l : left.Left) (ls : List left_in.LeftIn) (old t u : List Symbol) → ls ≡ (out-Left l).inputs → t ≡ old ++ flat_map (λ x. left_descs (seen_left_in x)) ls → u ≡ t ++ (out-Left l).desc ∷ [] → u ≡ old ++ left_descs (seen_left l)
-left_pushed l ls old t u same e f =
+pub nodes_pushed : (l : left.Left) (ls : List left_in.LeftIn) (old t u : List Symbol) → ls ≡ (out-Left l).inputs → t ≡ old ++ (out-Left l).desc ∷ [] → u ≡ t ++ flat_map (λ x. node_descs (seen_left_in x)) ls → u ≡ old ++ node_descs (seen_left l)
+nodes_pushed l ls old t u same e f =
     let d : List Symbol = (out-Left l).desc ∷ [] in
-    let text : left_descs (seen_left l) ≡ flat_map (λ x. left_descs (seen_left_in x)) ls ++ d =
-    ap left_descs (fold_out-Left (Tree LeftLabel) (Tree LeftLabel) left_input_level left_level l) ∙ ap (λ ds. ds ++ d) (lefts_each (out-Left l).inputs ∙ ap (λ xs. flat_map (λ x. left_descs (seen_left_in x)) xs) (sym same)) in
-    two_pushed old t u _ d e f ∙ ap (λ ds. old ++ ds) (sym text)
+    let text : node_descs (seen_left l) ≡ d ++ flat_map (λ x. node_descs (seen_left_in x)) ls =
+    ap node_descs (fold_out-Left (Tree LeftLabel) (Tree LeftLabel) left_input_level left_level l) ∙ ap (λ ds. d ++ ds) (nodes_each (out-Left l).inputs ∙ ap (λ xs. flat_map (λ x. node_descs (seen_left_in x)) xs) (sym same)) in
+    two_pushed old t u d _ e f ∙ ap (λ ds. old ++ ds) (sym text)
 
 pub streams_pushed : (l : left.Left) (ls : List left_in.LeftIn) (old t : List Symbol) → ls ≡ (out-Left l).inputs → t ≡ old ++ flat_map (λ x. stream_descs (seen_left_in x)) ls → t ≡ old ++ stream_descs (seen_left l)
 streams_pushed l ls old t same e =
@@ -43,9 +43,9 @@ streams_pushed l ls old t same e =
     ap stream_descs (fold_out-Left (Tree LeftLabel) (Tree LeftLabel) left_input_level left_level l) ∙ streams_each (out-Left l).inputs ∙ ap (λ xs. flat_map (λ x. stream_descs (seen_left_in x)) xs) (sym same) in
     e ∙ ap (λ ds. old ++ ds) (sym text)
 
-pub right_pushed : (r : right.Right) (rs : List right_in.RightIn) (old t u : List Symbol) → rs ≡ (out-Right r).inputs → t ≡ old ++ flat_map (λ x. right_descs (seen_right_in x)) rs → u ≡ t ++ (out-Right r).desc ∷ [] → u ≡ old ++ right_descs (seen_right r)
+pub right_pushed : (r : right.Right) (rs : List right_in.RightIn) (old t u : List Symbol) → rs ≡ (out-Right r).inputs → t ≡ old ++ (out-Right r).desc ∷ [] → u ≡ t ++ flat_map (λ x. right_descs (seen_right_in x)) rs → u ≡ old ++ right_descs (seen_right r)
 right_pushed r rs old t u same e f =
     let d : List Symbol = (out-Right r).desc ∷ [] in
-    let text : right_descs (seen_right r) ≡ flat_map (λ x. right_descs (seen_right_in x)) rs ++ d =
-    ap right_descs (fold_out-Right (Tree RightLabel) (Tree RightLabel) right_input_level right_level r) ∙ ap (λ ds. ds ++ d) (rights_each (out-Right r).inputs ∙ ap (λ xs. flat_map (λ x. right_descs (seen_right_in x)) xs) (sym same)) in
-    two_pushed old t u _ d e f ∙ ap (λ ds. old ++ ds) (sym text)
+    let text : right_descs (seen_right r) ≡ d ++ flat_map (λ x. right_descs (seen_right_in x)) rs =
+    ap right_descs (fold_out-Right (Tree RightLabel) (Tree RightLabel) right_input_level right_level r) ∙ ap (λ ds. d ++ ds) (rights_each (out-Right r).inputs ∙ ap (λ xs. flat_map (λ x. right_descs (seen_right_in x)) xs) (sym same)) in
+    two_pushed old t u d _ e f ∙ ap (λ ds. old ++ ds) (sym text)

@@ -6,3 +6,4 @@ pub mod ReadLaws
 pub mod RoleLaws
 pub mod BuiltinLaws
 pub mod KindLaws
+pub mod NumberLaws

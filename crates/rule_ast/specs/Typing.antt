@@ -15,7 +15,7 @@ use Rattle.rule_ast.specs.declared.table.Builtin.{Builtin}
 use Rattle.rule_ast.specs.declared.table.Builtin.TheVariants as builtin
 use Rattle.rule_ast.specs.declared.parts.Param.{Param}
 use Rattle.pr_value.specs.declared.property.Property.{Property}
-use Rattle.rule_ast.specs.Syntax.{Expr, number, truth, symbol, set_of, list_of, var, read, call, binary, fold, Exprs, Stmt, set, copy, Helper}
+use Rattle.rule_ast.specs.Syntax.{Expr, number, truth, symbol, set_of, list_of, var, read, call, binary, fold, Exprs, Stmt, set, copy, Body, Helper}
 use Rattle.rule_ast.specs.Syntax as syntax
 
 -- the type of what is declared of a kind
@@ -232,3 +232,9 @@ signatures_of = signatures_before []
 abbrev pub are_typed : List Property → List Signature → List Helper → Bool
 are_typed ps hs [] = true
 are_typed ps hs (h ∷ more) = is_type (type_of_kind h.result) (type_of ps hs (params_context h.params) h.body) && are_typed ps (helper_signature h ∷ hs) more
+
+-- the statements are well typed, and the test is a truth
+abbrev pub is_typed_body : List Property → List Signature → Context → Body → Bool
+is_typed_body ps hs c b =
+    list_all (is_typed_stmt ps hs c) b.pre && is_type kind.Truth (type_of ps hs c b.test) &&
+    list_all (is_typed_stmt ps hs c) b.post

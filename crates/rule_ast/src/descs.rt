@@ -1,7 +1,7 @@
 // The names of descriptors of operators and rules, in the order of the text.
 ghost use Rattle.std.specs.Prelude.{◌≡◌, ◌++◌, [], ◌∷◌, flat_map, IfOk, OnOk};
 ghost use Rattle.rule_ast.specs.Descs as spec;
-ghost use Rattle.rule_ast.specs.Descs.{left_descs, right_descs, impl_descs};
+ghost use Rattle.rule_ast.specs.Descs.{left_descs, node_descs, right_descs, impl_descs};
 ghost use Rattle.rule_ast.specs.Seen.{seen_left, seen_left_in, seen_right, seen_right_in, seen_operator, seen_trule, seen_irule};
 
 use crate::parts::{IRule, Operator, TRule};
@@ -17,32 +17,31 @@ fn push(alloc: Global, name: &Symbol, out: &mut Items<Symbol>) -> Result<(), Mem
     Ok(())
 }
 
-#[cycle(push_left)]
-fn push_left(alloc: Global, left: &Left, out: &mut Items<Symbol>) -> Result<(), Memory>
-    ensures { OnOk result (out.new ≡ out.old ++ left_descs (seen_left left.now)) }
+#[cycle(push_nodes)]
+fn push_nodes(alloc: Global, left: &Left, out: &mut Items<Symbol>) -> Result<(), Memory>
+    ensures { OnOk result (out.new ≡ out.old ++ node_descs (seen_left left.now)) }
 {
-    push_left_ins(alloc, left.inputs.as_slice(), out)?;
     push(alloc, &left.desc, out)?;
+    push_nodes_of(alloc, left.inputs.as_slice(), out)?;
     Ok(())
 }
 
-#[cycle(push_left)]
-fn push_left_in(alloc: Global, input: &LeftIn, out: &mut Items<Symbol>) -> Result<(), Memory>
-    ensures { OnOk result (out.new ≡ out.old ++ left_descs (seen_left_in input.now)) }
+#[cycle(push_nodes)]
+fn push_nodes_in(alloc: Global, input: &LeftIn, out: &mut Items<Symbol>) -> Result<(), Memory>
+    ensures { OnOk result (out.new ≡ out.old ++ node_descs (seen_left_in input.now)) }
 {
     match input {
-        LeftIn::Node(left) => push_left(alloc, left, out)?,
-        LeftIn::Stream { desc, .. } => push(alloc, desc, out)?,
+        LeftIn::Node(left) => push_nodes(alloc, left, out),
+        LeftIn::Stream { .. } => Ok(()),
     }
-    Ok(())
 }
 
-#[cycle(push_left)]
-fn push_left_ins(alloc: Global, inputs: &[LeftIn], out: &mut Items<Symbol>) -> Result<(), Memory>
-    ensures { OnOk result (out.new ≡ out.old ++ flat_map (λ x. left_descs (seen_left_in x)) inputs.now) }
+#[cycle(push_nodes)]
+fn push_nodes_of(alloc: Global, inputs: &[LeftIn], out: &mut Items<Symbol>) -> Result<(), Memory>
+    ensures { OnOk result (out.new ≡ out.old ++ flat_map (λ x. node_descs (seen_left_in x)) inputs.now) }
 {
     for input in inputs {
-        push_left_in(alloc, input, out)?;
+        push_nodes_in(alloc, input, out)?;
     }
     Ok(())
 }
@@ -51,8 +50,8 @@ fn push_left_ins(alloc: Global, inputs: &[LeftIn], out: &mut Items<Symbol>) -> R
 fn push_right(alloc: Global, right: &Right, out: &mut Items<Symbol>) -> Result<(), Memory>
     ensures { OnOk result (out.new ≡ out.old ++ right_descs (seen_right right.now)) }
 {
-    push_right_ins(alloc, right.inputs.as_slice(), out)?;
     push(alloc, &right.desc, out)?;
+    push_right_ins(alloc, right.inputs.as_slice(), out)?;
     Ok(())
 }
 
@@ -139,12 +138,30 @@ pub fn names_of(alloc: Global, inputs: &[ImplIn]) -> Result<Items<Symbol>, Memor
     Ok(names)
 }
 
+/// The names of the nodes of a left side, the root's first, and then those of its streams.
+fn push_left(alloc: Global, left: &Left, out: &mut Items<Symbol>) -> Result<(), Memory>
+    ensures { OnOk result (out.new ≡ out.old ++ left_descs (seen_left left.now)) }
+{
+    push_nodes(alloc, left, out)?;
+    push_streams(alloc, left, out)?;
+    Ok(())
+}
+
 /// The names of the streams of a left side.
 pub fn stream_descs(alloc: Global, left: &Left) -> Result<Items<Symbol>, Memory>
     ensures { IfOk result (λ names. names ≡ spec.stream_descs (seen_left left.now)) }
 {
     let mut names = Items::new(alloc);
     push_streams(alloc, left, &mut names)?;
+    Ok(names)
+}
+
+/// The names of the nodes of a right side, the root's first.
+pub fn right_descs(alloc: Global, right: &Right) -> Result<Items<Symbol>, Memory>
+    ensures { IfOk result (λ names. names ≡ spec.right_descs (seen_right right.now)) }
+{
+    let mut names = Items::new(alloc);
+    push_right(alloc, right, &mut names)?;
     Ok(names)
 }
 

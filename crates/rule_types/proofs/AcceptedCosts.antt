@@ -7,13 +7,14 @@ use Rattle.pr_value.specs.Symbols.{Symbol}
 use Rattle.pr_value.specs.declared.kind.Kind.TheVariants as kind
 use Rattle.pr_value.specs.declared.property.Property.{Property}
 use Rattle.rule_ast.specs.CostForms.{cost_name, is_cost, is_cost_form, reads_cost_of}
+use Rattle.rule_ast.specs.CostGiven.{cost_of}
 use Rattle.rule_ast.specs.Descs.{names_of}
 use Rattle.rule_ast.specs.Syntax.{Expr, IRule, Rules}
 use Rattle.rule_ast.specs.Typing.{property_kind}
 use Rattle.rule_types.specs.AcceptedLaws.{AssignsCostsLast, GivesCosts, HasNoCopies, HasOneCost, ReadsCostsLast, costs_of, gives_cost, gives_number, is_sound_cost, is_typed_irule, no_use_in, no_use_of}
 use Rattle.rule_types.specs.Conditions.{has_cost, refused_by, two_costs, wrong_type}
 use Rattle.rule_types.specs.Declarations.{Placed, Declaration, irule, declarations, placed, placed_behind}
-use Rattle.rule_types.specs.LaterConditions.{assigns_cost, copy_place, cost_assigned, cost_form, cost_missing, cost_of, cost_read, holds_of, is_copy, is_cost_read, lacks_form, reads_another, without_cost}
+use Rattle.rule_types.specs.LaterConditions.{assigns_cost, copy_place, cost_assigned, cost_form, cost_missing, cost_read, holds_of, is_copy, is_cost_read, lacks_form, reads_another, without_cost}
 use Rattle.rule_types.specs.Uses.{any_use_of}
 use Rattle.rule_types.proofs.DeclarationLaws.{at, each_irule, each_operator, each_trule, in_properties, list_any-either}
 use Rattle.rule_types.proofs.AcceptedNames.{accepted-names}

@@ -3,12 +3,13 @@ use Rattle.std.proofs.Common.{◌≡◌, ℕ, ◌≤◌, Bool, true, false, not,
 use Rattle.std.proofs.lemmas.Bool.{and_from, le-leb, ltb-false, not-false, or_parts}
 use Rattle.std.specs.List.{list_all, list_any}
 use Rattle.pr_value.specs.Trees.{Tree, node, Trees, nil, cons, label, list_of}
+use Rattle.rule_ast.specs.Descs.{stream_numbers}
 use Rattle.rule_ast.specs.Syntax.{LeftLabel, TRule, IRule, Rules}
 use Rattle.rule_types.specs.AcceptedLaws.{HasSoundSides, is_flat, is_small_trule, is_sound_irule, is_sound_trule, is_stream}
 use Rattle.rule_types.specs.Conditions.{are_numbers_distinct, left_not_flat, left_stream_twice, most_nodes, refused_by, same_numbers, stream_order, too_many_nodes}
 use Rattle.rule_types.specs.Declarations.{Declaration, trule, irule, declarations}
 use Rattle.rule_types.specs.LaterConditions.{enforcer_left, enforcer_root, is_left_enforcer, is_right_enforcer}
-use Rattle.rule_types.specs.Uses.{any_node, counts_left, counts_right, nodes, nodes_of, streams}
+use Rattle.rule_types.specs.Uses.{any_node, counts_left, counts_right, nodes, nodes_of}
 use Rattle.rule_types.proofs.DeclarationLaws.{at, each_irule, each_trule, list_any-either}
 use Rattle.rule_types.proofs.RefusalLaws.{nowhere-enforcer_left, nowhere-enforcer_root, nowhere-left_not_flat, nowhere-left_stream_twice, nowhere-stream_order, nowhere-too_many_nodes}
 
@@ -38,7 +39,7 @@ bad_irule d = left_not_flat d || (left_stream_twice d || stream_order d)
 
 sound_trule : (r : Rules) (before : List TRule) (t : TRule) → bad_trule r (trule (at before t)) ≡ false → is_sound_trule r t ≡ true
 sound_trule r before t e =
-    let lefts = are_numbers_distinct (streams t.left) in
+    let lefts = are_numbers_distinct (stream_numbers t.left) in
     let enforced = any_node (is_left_enforcer r.irules) t.left in
     let root = is_right_enforcer r.irules (label t.right) in
     let p = or_parts (not lefts) (enforced || root) e in
@@ -47,8 +48,8 @@ sound_trule r before t e =
 
 sound_irule : (before : List IRule) (i : IRule) → bad_irule (irule (at before i)) ≡ false → is_sound_irule i ≡ true
 sound_irule before i e =
-    let lefts = are_numbers_distinct (streams i.left) in
-    let ordered = same_numbers (map (λ s. s.number) i.right.inputs) (streams i.left) in
+    let lefts = are_numbers_distinct (stream_numbers i.left) in
+    let ordered = same_numbers (map (λ s. s.number) i.right.inputs) (stream_numbers i.left) in
     let count = nodes counts_left i.left in
     let p = or_parts (nat_lt 1 count) (not lefts || not ordered) e in
     let q = or_parts (not lefts) (not ordered) p.1 in

@@ -5,10 +5,11 @@ use Rattle.pr_value.specs.Trees.{Tree, tree}
 use Rattle.pr_value.specs.declared.kind.Kind.{Kind}
 use Rattle.pr_value.specs.declared.kind.Kind.TheVariants as kind
 use Rattle.pr_value.specs.declared.property.Property.{Property}
+use Rattle.rule_ast.specs.Descs.{stream_numbers}
 use Rattle.rule_ast.specs.Syntax.{LeftLabel, Rules}
 use Rattle.rule_types.specs.Conditions.{are_numbers_distinct, is_arity, refused, refused_by, same_numbers}
 use Rattle.rule_types.specs.Declarations.{placed}
-use Rattle.rule_types.specs.Uses.{nodes, counts_left, streams}
+use Rattle.rule_types.specs.Uses.{nodes, counts_left}
 use Rattle.rule_types.specs.declared.refusal.RefusalKind.TheVariants as why
 
 abbrev a : Symbol
@@ -24,7 +25,7 @@ placed_two = refl
 abbrev side : Tree LeftLabel
 side = tree (LeftLabel.operator a a) (tree (LeftLabel.stream 1 a) [] ∷ tree (LeftLabel.operator b b) (tree (LeftLabel.stream 2 b) [] ∷ []) ∷ [])
 
-streams_of_side : streams side ≡ 1 ∷ 2 ∷ []
+streams_of_side : stream_numbers side ≡ 1 ∷ 2 ∷ []
 streams_of_side = refl
 
 nodes_of_side : nodes counts_left side ≡ 2

@@ -8,13 +8,13 @@ use Rattle.pr_value.specs.Symbols.{Symbol}
 use Rattle.pr_value.specs.SymbolSets.{contains}
 use Rattle.pr_value.specs.declared.kind.Kind.TheVariants as kind
 use Rattle.rule_ast.specs.CostForms.{cost_name}
-use Rattle.rule_ast.specs.CostGiven.{value_given}
+use Rattle.rule_ast.specs.CostGiven.{cost_of, value_given}
 use Rattle.rule_ast.specs.Descs.{irule_descs}
 use Rattle.rule_ast.specs.Syntax.{Stmt, set, copy, IRule, Rules}
 use Rattle.rule_ast.specs.Typing.{Context, Signature, fits_property, is_type, is_typed_stmt, property_kind, signatures_of, type_of}
 use Rattle.pr_value.specs.declared.property.Property.{Property}
 use Rattle.rule_types.specs.AcceptedLaws.{gives_number, is_typed_irule}
-use Rattle.rule_types.specs.LaterConditions.{cost_of, holds_of}
+use Rattle.rule_types.specs.LaterConditions.{holds_of}
 
 -- what holds of each holds of what is found at a place
 holds_at : {A : Type 0} (good : A → Bool) (xs : List A) (n : ℕ) (x : A) → list_all good xs ≡ true → slice_get xs n ≡ Some x → good x ≡ true

@@ -3,7 +3,7 @@ use Rattle.std.proofs.Common.{◌≡◌, ◌-◌, List, length, map, take, ap, �
 use Rattle.std.proofs.lemmas.List.{length-map, take-map}
 use Rattle.rule_ast.specs.Seen.{seen_stmt}
 use Rattle.rule_ast.specs.declared.expr.Stmt as stmt
-use Rattle.rule_types.specs.LaterConditions.{but_last}
+use Rattle.rule_ast.specs.CostGiven.{but_last}
 
 pub but_last-seen : (ss : List stmt.Stmt) → but_last (map seen_stmt ss) ≡ map seen_stmt (take (length ss - 1) ss)
 but_last-seen ss =

@@ -1,6 +1,6 @@
 -- A side from its root on.
 use Rattle.std.proofs.Common.{◌≡◌, ℕ, ◌+◌, ◌<◌, min, Bool, ◌||◌, List, [], ◌∷◌, ◌++◌, length, take, get_or, map, flat_map, refl, ap, sym, ◌∙◌}
-use Rattle.std.proofs.lemmas.List.{length-map, take_more, flat_map_more}
+use Rattle.std.proofs.lemmas.List.{length-map}
 use Rattle.pr_value.specs.Trees.{Tree, trees_of, list_of}
 use Rattle.pr_value.proofs.TreeLaws.{list_of_trees_of}
 use Rattle.rule_ast.specs.Syntax.{LeftLabel, RightLabel}
@@ -14,7 +14,7 @@ use Rattle.rule_ast.specs.declared.sides.Right.{out-Right}
 use Rattle.rule_ast.specs.declared.sides.RightIn as right_in
 use Rattle.rule_ast.specs.declared.sides.RightIn.TheFolds.{fold_out-Right}
 use Rattle.rule_types.proofs.NodeLaws.{one-capped}
-use Rattle.rule_types.specs.Uses.{any_node, any_nodes, streams, streams_of, nodes, nodes_of, counts_left, counts_right}
+use Rattle.rule_types.specs.Uses.{any_node, any_nodes, nodes, nodes_of, counts_left, counts_right}
 
 -- how many inputs a node has
 inputs_count : {L X : Type 0} (f : X → Tree L) (xs : List X) → length (list_of (trees_of (map f xs))) ≡ length xs
@@ -31,23 +31,6 @@ pub any_node-right : (asked : RightLabel → ℕ → Bool) (r : right.Right) →
 any_node-right asked r =
     ap (any_node asked) (fold_out-Right (Tree RightLabel) (Tree RightLabel) right_input_level right_level r)
     ∙ ap (λ n. asked (RightLabel.operator (out-Right r).op (out-Right r).desc) n || any_nodes asked (trees_of (map seen_right_in (out-Right r).inputs))) (inputs_count seen_right_in (out-Right r).inputs)
-
-streams_each : (ls : List left_in.LeftIn) → streams_of (trees_of (map seen_left_in ls)) ≡ flat_map (λ x. streams (seen_left_in x)) ls
-streams_each [] = refl
-streams_each (l ∷ ls) = ap (λ ns. streams (seen_left_in l) ++ ns) (streams_each ls)
-
-streams-left : (l : left.Left) → streams (seen_left l) ≡ flat_map (λ x. streams (seen_left_in x)) (out-Left l).inputs
-streams-left l = ap streams (fold_out-Left (Tree LeftLabel) (Tree LeftLabel) left_input_level left_level l) ∙ streams_each (out-Left l).inputs
-
-pub streams_pushed : (l : left.Left) (ls : List left_in.LeftIn) (old new : List ℕ) → ls ≡ (out-Left l).inputs → new ≡ old ++ flat_map (λ x. streams (seen_left_in x)) ls → new ≡ old ++ streams (seen_left l)
-streams_pushed l ls old new same e = e ∙ ap (λ ns. old ++ ns) (ap (λ xs. flat_map (λ x. streams (seen_left_in x)) xs) same ∙ sym (streams-left l))
-
--- one input more
-pub streams-more : (ls : List left_in.LeftIn) (i : ℕ) (l : left_in.LeftIn) (start old new : List ℕ) → i < length ls → l ≡ get_or ls i l → old ≡ start ++ flat_map (λ x. streams (seen_left_in x)) (take i ls) → new ≡ old ++ streams (seen_left_in l)
-    → new ≡ start ++ flat_map (λ x. streams (seen_left_in x)) (take (i + 1) ls)
-streams-more ls i l start old new within here so_far added =
-    added ∙ ap (λ ns. ns ++ streams (seen_left_in l)) so_far ∙ flat_map_more (λ x. streams (seen_left_in x)) start (take i ls) l
-    ∙ ap (λ xs. start ++ flat_map (λ x. streams (seen_left_in x)) xs) (ap (λ x. take i ls ++ x ∷ []) here ∙ sym (take_more ls i l within))
 
 nodes-left : (l : left.Left) → nodes counts_left (seen_left l) ≡ 1 + nodes_of counts_left (trees_of (map seen_left_in (out-Left l).inputs))
 nodes-left l = ap (nodes counts_left) (fold_out-Left (Tree LeftLabel) (Tree LeftLabel) left_input_level left_level l)

@@ -9,13 +9,14 @@ use Rattle.pr_value.specs.Trees.{Tree, node, label, list_of}
 use Rattle.pr_value.specs.declared.kind.Kind.TheVariants as kind
 use Rattle.pr_value.specs.declared.property.Property.{Property}
 use Rattle.rule_ast.specs.CostForms.{cost_name, is_cost, is_cost_form, reads_cost_of}
-use Rattle.rule_ast.specs.Descs.{names_of, operator_descs, trule_descs, irule_descs}
+use Rattle.rule_ast.specs.CostGiven.{cost_of}
+use Rattle.rule_ast.specs.Descs.{names_of, operator_descs, stream_numbers, trule_descs, irule_descs}
 use Rattle.rule_ast.specs.Roles.{is_null}
 use Rattle.rule_ast.specs.Syntax.{Expr, Stmt, LeftLabel, Body, Operator, TRule, IRule, Rules}
-use Rattle.rule_ast.specs.Typing.{Context, are_typed, is_type, is_typed_stmt, property_kind, signatures_of, type_of}
-use Rattle.rule_types.specs.Conditions.{algorithm_names, are_numbers_distinct, helper_names, irule_names, is_arity, is_typed_body, most_declared, most_nodes, most_properties, operator_names, property_names, same_numbers, trule_names, unknown_in_irule, unknown_in_trule, wrong_in_irule, wrong_in_trule}
-use Rattle.rule_types.specs.LaterConditions.{assigns_cost, assigns_physical, assigns_unphysical, changes_input, cost_of, has_desc, holds_of, is_copy, is_cost_read, is_left_enforcer, is_right_enforcer, passes_cost, without_cost}
-use Rattle.rule_types.specs.Uses.{Question, assigning, copying, any_node, any_use_in, any_use_of, counts_left, counts_right, nodes, streams}
+use Rattle.rule_ast.specs.Typing.{Context, are_typed, is_type, is_typed_body, is_typed_stmt, property_kind, signatures_of, type_of}
+use Rattle.rule_types.specs.Conditions.{algorithm_names, are_numbers_distinct, helper_names, irule_names, is_arity, most_declared, most_nodes, most_properties, operator_names, property_names, same_numbers, trule_names, unknown_in_irule, unknown_in_trule, wrong_in_irule, wrong_in_trule}
+use Rattle.rule_types.specs.LaterConditions.{assigns_cost, assigns_physical, assigns_unphysical, changes_input, has_desc, holds_of, is_copy, is_cost_read, is_left_enforcer, is_right_enforcer, passes_cost, without_cost}
+use Rattle.rule_types.specs.Uses.{Question, assigning, copying, any_node, any_use_in, any_use_of, counts_left, counts_right, nodes}
 
 -- ---- types
 
@@ -90,7 +91,7 @@ pub record HasKnownSides (r : Rules) : Type 0 where
 -- streams are distinct, and no enforcer stands on the left side or at the right root
 abbrev pub is_sound_trule : Rules → TRule → Bool
 is_sound_trule r t =
-    are_numbers_distinct (streams t.left) &&
+    are_numbers_distinct (stream_numbers t.left) &&
     not (any_node (is_left_enforcer r.irules) t.left) &&
     not (is_right_enforcer r.irules (label t.right))
 
@@ -106,8 +107,8 @@ is_flat (node (LeftLabel.stream n d) ts) = true
 -- an operator over distinct streams, which are those of the algorithm, in their order
 abbrev pub is_sound_irule : IRule → Bool
 is_sound_irule i =
-    is_flat i.left && are_numbers_distinct (streams i.left) &&
-    same_numbers (map (λ s. s.number) i.right.inputs) (streams i.left)
+    is_flat i.left && are_numbers_distinct (stream_numbers i.left) &&
+    same_numbers (map (λ s. s.number) i.right.inputs) (stream_numbers i.left)
 
 -- neither side has more operators than it may have
 abbrev pub is_small_trule : TRule → Bool

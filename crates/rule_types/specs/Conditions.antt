@@ -13,11 +13,12 @@ use Rattle.rule_ast.specs.declared.sides.AlgName.{AlgName}
 use Rattle.rule_ast.specs.declared.sides.AlgName.TheVariants as alg
 use Rattle.rule_ast.specs.declared.sides.ImplSide.{ImplSide}
 use Rattle.rule_ast.specs.CostForms.{is_cost}
-use Rattle.rule_ast.specs.Syntax.{LeftLabel, RightLabel, Operator, Helper, Body, TRule, IRule, Rules}
-use Rattle.rule_ast.specs.Typing.{Context, Signature, builtins, is_builtin, helper_signature, signatures_of, params_context, type_of_kind, type_of, is_type, is_typed_stmt}
+use Rattle.rule_ast.specs.Descs.{stream_numbers}
+use Rattle.rule_ast.specs.Syntax.{LeftLabel, RightLabel, Operator, Helper, TRule, IRule, Rules}
+use Rattle.rule_ast.specs.Typing.{Context, Signature, builtins, is_builtin, helper_signature, signatures_of, params_context, type_of_kind, type_of, is_type, is_typed_body, is_typed_stmt}
 use Rattle.rule_types.specs.Declarations.{Placed, Declaration, property, operator, algorithm, helper, trule, irule, declarations, declared_name, descs_of, params_of, helpers_of}
 use Rattle.rule_types.specs.LaterConditions.{copy_place, assign_target, input_in_post, cost_assigned, cost_missing, cost_read, cost_form, null_form, enforcer_left, enforcer_root, physical_in_trule, input_not_physical}
-use Rattle.rule_types.specs.Uses.{variable, reading, calling, folding, assigning, copying, Question, uses, any_node, streams, nodes, counts_left, counts_right}
+use Rattle.rule_types.specs.Uses.{variable, reading, calling, folding, assigning, copying, Question, uses, any_node, nodes, counts_left, counts_right}
 use Rattle.rule_types.specs.declared.refusal.Refused.{Refused}
 use Rattle.rule_types.specs.declared.refusal.RefusalKind.{RefusalKind}
 use Rattle.rule_types.specs.declared.refusal.RefusalKind.TheVariants as kind
@@ -138,11 +139,11 @@ is_unknown_impl r numbers s =
 
 abbrev pub unknown_in_trule : Rules → TRule → Bool
 unknown_in_trule r t =
-    any_node (is_unknown_left r) t.left || any_node (is_unknown_right r (streams t.left)) t.right
+    any_node (is_unknown_left r) t.left || any_node (is_unknown_right r (stream_numbers t.left)) t.right
 
 abbrev pub unknown_in_irule : Rules → IRule → Bool
 unknown_in_irule r i =
-    any_node (is_unknown_left r) i.left || is_unknown_impl r (streams i.left) i.right
+    any_node (is_unknown_left r) i.left || is_unknown_impl r (stream_numbers i.left) i.right
 
 abbrev pub unknown_in_sides : Rules → Declaration → Bool
 unknown_in_sides r (trule t) = unknown_in_trule r t.this
@@ -217,11 +218,6 @@ abbrev pub context_of : Declaration → Context
 context_of (helper h) = params_context h.this.params
 context_of d = record { descs = descs_of d; vars = [] }
 
-abbrev pub is_typed_body : List Property → List Signature → Context → Body → Bool
-is_typed_body ps hs c b =
-    list_all (is_typed_stmt ps hs c) b.pre && is_type kinds.Truth (type_of ps hs c b.test) &&
-    list_all (is_typed_stmt ps hs c) b.post
-
 abbrev pub is_typed : List Property → List Signature → Context → Declaration → Bool
 is_typed ps hs c (operator o) = list_all (is_typed_stmt ps hs c) o.this.init
 is_typed ps hs c (helper h) = is_type (type_of_kind h.this.result) (type_of ps hs c h.this.body)
@@ -239,8 +235,8 @@ are_numbers_distinct [] = true
 are_numbers_distinct (n ∷ ns) = not (has_number ns n) && are_numbers_distinct ns
 
 abbrev pub left_stream_twice : Declaration → Bool
-left_stream_twice (trule t) = not (are_numbers_distinct (streams t.this.left))
-left_stream_twice (irule i) = not (are_numbers_distinct (streams i.this.left))
+left_stream_twice (trule t) = not (are_numbers_distinct (stream_numbers t.this.left))
+left_stream_twice (irule i) = not (are_numbers_distinct (stream_numbers i.this.left))
 left_stream_twice _ = false
 
 abbrev pub same_numbers : List ℕ → List ℕ → Bool
@@ -249,7 +245,7 @@ same_numbers (m ∷ ms) (n ∷ ns) = m == n && same_numbers ms ns
 same_numbers _ _ = false
 
 abbrev pub stream_order : Declaration → Bool
-stream_order (irule i) = not (same_numbers (map (λ s. s.number) i.this.right.inputs) (streams i.this.left))
+stream_order (irule i) = not (same_numbers (map (λ s. s.number) i.this.right.inputs) (stream_numbers i.this.left))
 stream_order _ = false
 
 -- ---- TooManyNodes and LeftNotFlat

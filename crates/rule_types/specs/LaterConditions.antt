@@ -6,7 +6,7 @@ use Rattle.pr_value.specs.Symbols.{Symbol}
 use Rattle.pr_value.specs.SymbolSets.{contains}
 use Rattle.pr_value.specs.Trees.{Tree, label}
 use Rattle.rule_ast.specs.CostForms.{cost_name, is_cost_form, reads_cost_of}
-use Rattle.rule_ast.specs.CostGiven.{cost_given}
+use Rattle.rule_ast.specs.CostGiven.{but_last, cost_of}
 use Rattle.rule_ast.specs.Descs.{names_of}
 use Rattle.rule_ast.specs.Roles.{is_enforcer, is_null, is_physical}
 use Rattle.rule_ast.specs.Syntax.{Expr, read, Stmt, set, copy, LeftLabel, RightLabel, Body, IRule, Rules}
@@ -59,14 +59,6 @@ input_in_post (irule i) =
 input_in_post _ = false
 
 -- ---- CostAssigned, CostMissing and CostRead
-
--- the expression that gives an I-rule's cost, by the name of the cost
-abbrev pub cost_of : Symbol → IRule → Option Expr
-cost_of cost i = cost_given cost i.right.desc i.body.post
-
--- all statements but the last
-abbrev pub but_last : List Stmt → List Stmt
-but_last ss = take (length ss - 1) ss
 
 abbrev pub post_without_cost : Symbol → IRule → List Stmt
 post_without_cost cost i = if is_some (cost_of cost i) then but_last i.body.post else i.body.post

@@ -26,7 +26,6 @@ mod scope_names;
 mod scopes;
 mod sides;
 mod statements;
-mod streams;
 mod typing;
 mod uses;
 

@@ -1,6 +1,7 @@
 // Conditions on where the cost is assigned and read, and on the form of the costs of I-rules.
 ghost use Rattle.std.specs.Prelude.{◌≡◌, ◌||◌, map, option_map, IfOk};
 ghost use Rattle.std.specs.Option.{option_copied};
+ghost use Rattle.rule_ast.specs.CostGiven as given;
 ghost use Rattle.rule_ast.specs.Seen.{seen_expr, seen_irule, seen_stmt};
 ghost use Rattle.rule_types.specs.LaterConditions as spec;
 ghost use Rattle.rule_types.specs.LaterConditions.{assigns_cost, holds_of, is_cost_read};
@@ -18,14 +19,14 @@ use std::alloc::Global;
 // The expression that gives the rule's cost.
 fn cost_of<'a>(rule: &'a IRule, cost: &[u8]) -> Option<&'a Expr>
     ensures { option_map seen_expr (option_copied result)
-        ≡ spec.cost_of cost.now (seen_irule rule.now) }
+        ≡ given.cost_of cost.now (seen_irule rule.now) }
 {
     cost_given(rule.body.post.as_slice(), &rule.right.desc, cost)
 }
 
 #[tactic(auto, using(crate::proofs::RuleCostLaws::last_laws))]
 fn but_last(ss: &[Stmt]) -> &[Stmt]
-    ensures { map seen_stmt result.now ≡ spec.but_last (map seen_stmt ss.now) }
+    ensures { map seen_stmt result.now ≡ given.but_last (map seen_stmt ss.now) }
 {
     let count = ss.len().saturating_sub(1);
     &ss[..count]
@@ -119,7 +120,7 @@ fn cost_read_in_irule(alloc: Global, cost: &[u8], rule: &IRule) -> Result<bool, 
     ensures { IfOk result (λ b. b
         ≡ (any_use_of (is_cost_read cost.now) (spec.without_cost cost.now (seen_irule rule.now))
         || holds_of (spec.reads_another cost.now rule.now.right.inputs)
-        (spec.cost_of cost.now (seen_irule rule.now)))) }
+        (given.cost_of cost.now (seen_irule rule.now)))) }
 {
     if any_use_without_cost(rule, cost, &IsCostRead { cost }) {
         return Ok(true);

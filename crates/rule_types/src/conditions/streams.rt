@@ -1,16 +1,15 @@
 // Conditions on the streams of a rule.
 ghost use Rattle.std.specs.Prelude.{◌≡◌, ◌==◌, map, not, IfOk};
 ghost use Rattle.std.specs.List.{list_all, zip};
+ghost use Rattle.rule_ast.specs.Descs as descs;
 ghost use Rattle.rule_ast.specs.Seen.{seen_left};
 ghost use Rattle.rule_types.specs.Conditions as spec;
 ghost use Rattle.rule_types.specs.Conditions.{are_numbers_distinct, same_numbers};
 ghost use Rattle.rule_types.specs.SeenDeclarations.{seen_declaration};
-ghost use Rattle.rule_types.specs.Uses as uses;
 
 use crate::declaration::Declaration;
-use crate::streams::streams;
 use pr_value::Memory;
-use rule_ast::{ImplIn, Left};
+use rule_ast::{ImplIn, Left, stream_numbers};
 use std::alloc::Global;
 use std::collections::BTreeSet;
 
@@ -28,9 +27,9 @@ fn are_distinct(alloc: Global, numbers: &[u64]) -> Result<bool, Memory>
 }
 
 fn has_stream_twice(alloc: Global, left: &Left) -> Result<bool, Memory>
-    ensures { IfOk result (λ b. b ≡ not (are_numbers_distinct (uses.streams (seen_left left.now)))) }
+    ensures { IfOk result (λ b. b ≡ not (are_numbers_distinct (descs.stream_numbers (seen_left left.now)))) }
 {
-    let numbers = streams(alloc, left)?;
+    let numbers = stream_numbers(alloc, left)?;
     let distinct = are_distinct(alloc, numbers.as_slice())?;
     Ok(!distinct)
 }
@@ -68,7 +67,7 @@ pub fn stream_order(alloc: Global, d: &Declaration) -> Result<bool, Memory>
 {
     match d {
         Declaration::IRule { this, .. } => {
-            let numbers = streams(alloc, &this.left)?;
+            let numbers = stream_numbers(alloc, &this.left)?;
             Ok(!same_numbers(this.right.inputs.as_slice(), numbers.as_slice()))
         }
         _ => Ok(false),

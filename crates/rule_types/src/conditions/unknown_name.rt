@@ -17,10 +17,11 @@ use crate::folds::{Folds, is_fold};
 use crate::numbers::Numbers;
 use crate::scopes::{descs_of, helpers_of, params_of};
 use crate::sides::{LeftQuestion, RightQuestion, any_left, any_right};
-use crate::streams::streams;
 use crate::uses::{Use, UseQuestion, uses};
 use pr_value::{Memory, Property, Symbol};
-use rule_ast::{AlgName, Helper, IRule, ImplIn, ImplSide, Rules, TRule, is_builtin};
+use rule_ast::{
+    AlgName, Helper, IRule, ImplIn, ImplSide, Rules, TRule, is_builtin, stream_numbers,
+};
 use std::alloc::Global;
 
 // A use of what is not there.
@@ -154,7 +155,7 @@ fn unknown_in_trule(alloc: Global, rules: &Rules, rule: &TRule) -> Result<bool, 
     ensures { IfOk result
         (λ b. b ≡ spec.unknown_in_trule (seen_rules rules.now) (seen_trule rule.now)) }
 {
-    let streams = streams(alloc, &rule.left)?;
+    let streams = stream_numbers(alloc, &rule.left)?;
     let numbers = Numbers::new(alloc, streams.as_slice())?;
     let right = UnknownRight {
         rules,
@@ -167,7 +168,7 @@ fn unknown_in_irule(alloc: Global, rules: &Rules, rule: &IRule) -> Result<bool, 
     ensures { IfOk result
         (λ b. b ≡ spec.unknown_in_irule (seen_rules rules.now) (seen_irule rule.now)) }
 {
-    let streams = streams(alloc, &rule.left)?;
+    let streams = stream_numbers(alloc, &rule.left)?;
     let numbers = Numbers::new(alloc, streams.as_slice())?;
     Ok(
         any_left(&rule.left, &UnknownLeft { rules })

@@ -2,6 +2,7 @@ ghost use Rattle.std.specs.Prelude.{◌≡◌, map, IfOk};
 ghost use Rattle.std.specs.List.{list_all};
 ghost use Rattle.rule_ast.specs.Seen.{seen_body, seen_expr, seen_helper, seen_stmt};
 ghost use Rattle.rule_ast.specs.SeenRules.{seen_rules};
+ghost use Rattle.rule_ast.specs.Typing as typing;
 ghost use Rattle.rule_ast.specs.Typing.{is_type, is_typed_stmt, signatures_of, type_of};
 ghost use Rattle.rule_types.specs.Conditions as spec;
 ghost use Rattle.rule_types.specs.Contexts.{seen_context};
@@ -35,7 +36,7 @@ fn are_typed_in(alloc: Global, scope: &Scope, ss: &[Stmt]) -> Result<bool, Memor
 }
 
 fn is_typed_body(alloc: Global, scope: &Scope, body: &Body) -> Result<bool, Memory>
-    ensures { IfOk result (λ b. b ≡ spec.is_typed_body scope.now.properties.now
+    ensures { IfOk result (λ b. b ≡ typing.is_typed_body scope.now.properties.now
         (signatures_of (map seen_helper scope.now.helpers.now))
         (seen_context scope.now.context.now) (seen_body body.now)) }
 {

@@ -4,6 +4,7 @@ use Rattle.derivation.specs.Stands.{StandAll}
 use Rattle.descriptor_types.specs.Labels.{seen_tree}
 use Rattle.pr_value.specs.Trees.{trees_of}
 use Rattle.query_tree.specs.Dressed.{dressed}
+use Rattle.query_tree.specs.TermsAdded.{AddsPartsOf}
 use Rattle.query_tree.specs.Trees.{AreTrees}
 use Rattle.rule_ast.specs.SeenRules.{seen_rules}
 use Rattle.query_tree.proofs.adding.+add.Given as goal
@@ -13,5 +14,6 @@ abbrev pub invariant-add_nodes-loop-tree : goal.invariant-add_nodes-loop-tree
 invariant-add_nodes-loop-tree l = record {
   kept : take (length l.initial.terms) l.terms ≡ l.initial.terms;
   stand : StandAll l.terms l.numbers.items (trees_of (map (λ t. dressed (seen_rules l.dressing.rules.now) (seen_tree t)) (take l.tree-index l.trees)));
+  parts : AddsPartsOf (map (λ t. dressed (seen_rules l.dressing.rules.now) (seen_tree t)) (take l.tree-index l.trees)) l.initial.terms l.terms;
   trees : (k : Catalog) × AreTrees (seen_rules l.dressing.rules.now) k (trees_of (map seen_tree (drop l.tree-index l.trees)));
 }

@@ -4,13 +4,14 @@ use Rattle.descriptor_types.specs.Descriptors.{plain}
 use Rattle.descriptor_types.specs.Labels.{seen_tree}
 use Rattle.pr_value.specs.Repeats.{are_distinct}
 use Rattle.query_tree.specs.Query.{with_settings}
-use Rattle.query_tree.specs.Scopes.{Scope, env_over}
+use Rattle.rule_runs.specs.Runs.{Scope, env_over}
 use Rattle.query_tree.specs.Views.{view_in}
 use Rattle.query_tree.proofs.BuildLaws.{distinct-descs, fits-scope, zip-scope}
 use Rattle.query_tree.proofs.SoundLaws.{plain-sound, settings-sound}
 use Rattle.rule_ast.specs.Seen.{seen_operator}
 use Rattle.rule_ast.specs.SeenRules.{seen_rules}
 use Rattle.rule_types.proofs.AcceptedCosts.{accepted-one_cost}
+use Rattle.rule_types.proofs.AcceptedTypes.{accepted-types}
 use Rattle.query_tree.proofs.building.initial_env.Goals as goal
 
 pub env_over-requires-clause-different : goal.env_over-requires-clause-different
@@ -42,3 +43,6 @@ returns-clause-env c =
     ∙ ap (λ (s : Scope). env_over r s)
     (zip-scope (seen_operator c.args.operator.now) views d c.as_slice.result.now c.as_slice-2.result.now as_many
     (c.as_slice.ensures ∙ c.in_ok-names.ensures) (c.as_slice-2.ensures ∙ c.in_ok-descs.ensures))
+
+pub env_over-requires-clause-helpers : goal.env_over-requires-clause-helpers
+env_over-requires-clause-helpers c = (accepted-types (seen_rules c.args.under.now.rules.now) c.args.under.now.accepted).helpers

@@ -9,7 +9,7 @@ use Rattle.descriptor_types.specs.declared.tree.Tree.TheVariants as variant
 use Rattle.pr_value.specs.Trees.{Tree, tree}
 use Rattle.query_tree.specs.Built.{built_operator}
 use Rattle.query_tree.specs.Query.{initial_desc, operator_named}
-use Rattle.query_tree.specs.Steps.{operator_at}
+use Rattle.rule_runs.specs.Sides.{operator_at}
 use Rattle.query_tree.specs.Trees.{IsDesc, IsTree}
 use Rattle.query_tree.specs.Views.{view_in}
 use Rattle.query_tree.proofs.BuildLaws.{Stands, found, operator-tree, stands-right, within-map}

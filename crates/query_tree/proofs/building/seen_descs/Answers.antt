@@ -13,7 +13,7 @@ returns c =
     let under = c.args.under.now in
     let r = seen_rules under.rules.now in
     let mask : c.seen.result.now ≡ seen r = c.seen.ensures ∙ ap (map is_seen) under.classed in
-    let views = views-pushed r under.layout.now c.seen.result.now c.args.inputs.now c.new-descs.result c.push_views.new.out under.laid_out mask c.new-descs.ensures c.in_ok-push_views.ensures in
+    let views = views-pushed r under.layout.now c.seen.result.now c.args.inputs.now c.new-descs.result c.push_views.new.out under.laid_out mask c.new-descs.ensures c.in_ok-push_views.ensures.pushed in
     let own = c.in_ok-own.ensures ∙ ap (λ (l : Layout). with_settings l c.args.settings.now (plain l)) under.laid_out in
     c.in_ok-push.ensures.ok
     ∙ (ap (λ (ds : List Desc). ds ++ c.in_ok-own.own ∷ []) views

@@ -1,11 +1,15 @@
-use Rattle.std.proofs.Common.{◌≡◌, true, inl, inr, arith}
+use Rattle.std.proofs.Common.{◌≡◌, suc, ◌≤◌, true, inl, inr, arith}
 use Rattle.std.specs.Prelude.{◌+◌}
 use Rattle.derivation.proofs.AlikeLaws.{alike_joined}
 use Rattle.derivation.proofs.CountLaws.{count_is}
 use Rattle.derivation.proofs.FixedLaws.{fixed_alike}
-use Rattle.derivation.proofs.JoinedLaws.{closed_is_all}
+use Rattle.derivation.proofs.JoinedLaws.{closed_is_all, raise}
+use Rattle.derivation.proofs.LinesLaws.{joined_of_lines, lines_of_joined}
 use Rattle.rule_ast.specs.SeenRules.{seen_rules}
 use Rattle.query_tree.proofs.ApartLaws.{seen_trules-rooted, step-apart}
+use Rattle.query_tree.proofs.DisagreeLaws.{disagree_is_on, loop_is_at}
+use Rattle.query_tree.proofs.JoinedTrees.{joined-trees}
+use Rattle.query_tree.proofs.StepLaws.{step-IsTree}
 use Rattle.query_tree.specs.Equality.{is_counted, is_enforcing}
 use Rattle.query_tree.specs.Steps.{step}
 use Rattle.query_tree.proofs.equality.equality_laws.Goals as goal
@@ -30,3 +34,23 @@ returns-clause-count c q k n ts one =
     let r = seen_rules c.args.a.now.rules in
     let e = count_is (step r c.args.catalog.now) q (λ l. is_counted r l ≡ true) k ts (n + 1) one in
     (λ full. let h = e.0 full in omega (arith, h), λ h. e.1 (omega (arith, h)))
+
+pub returns-clause-grows : goal.returns-clause-grows
+returns-clause-grows c q t u k p =
+    let more : k ≤ suc k = omega arith in
+    raise (step (seen_rules c.args.a.now.rules) c.args.catalog.now) q more p
+
+pub returns-clause-lines : goal.returns-clause-lines
+returns-clause-lines c q t u k =
+    let s = step (seen_rules c.args.a.now.rules) c.args.catalog.now in
+    (joined_of_lines s q k t u, λ p. lines_of_joined s q p)
+
+pub returns-clause-disagree : goal.returns-clause-disagree
+returns-clause-disagree c q k is =
+    let r = seen_rules c.args.a.now.rules in
+    disagree_is_on r c.args.catalog.now q (joined-trees r c.args.catalog.now (step-IsTree r c.args.catalog.now c.rules-rules.ensures.accepted) q is) k
+
+pub returns-clause-looping : goal.returns-clause-looping
+returns-clause-looping c q is =
+    let r = seen_rules c.args.a.now.rules in
+    loop_is_at r c.args.catalog.now q (joined-trees r c.args.catalog.now (step-IsTree r c.args.catalog.now c.rules-rules.ensures.accepted) q is)

@@ -1,8 +1,6 @@
 use Rattle.std.proofs.Common.{get_or, subst}
-use Rattle.std.proofs.lemmas.List.{drop_all}
+use Rattle.std.proofs.lemmas.List.{drop_all, get_or_default}
 use Rattle.query_tree.proofs.TermFitLaws.{RootSays, rest_all, rest_more, rest_none}
-use Rattle.query_tree.proofs.TermMatchLaws.{got_within}
-use Rattle.query_tree.specs.declared.term_matching.StreamTerm.{StreamTerm}
 use Rattle.query_tree.proofs.term_fits.are_roots_fit.Goals as goal
 
 pub loop-stream-init : goal.loop-stream-init
@@ -10,17 +8,15 @@ loop-stream-init c = λ b h. h
 
 pub returns-then-not-is_root_fit : goal.returns-then-not-is_root_fit
 returns-then-not-is_root_fit c =
-    let none : StreamTerm = record { number = 0; term = 0 } in
-    let s = get_or c.args.streams.now c.loop-stream.stream-index none in
-    rest_none c.args.layout.now c.args.terms.now c.args.streams.now c.loop-stream.stream-index s c.loop-stream-test.true (got_within c.args.streams.now c.loop-stream.stream-index none s c.loop-stream-test.true)
-    (subst (λ b. RootSays c.args.layout.now c.args.terms.now b s.term) c.if-not-is_root_fit.true c.is_root_fit.ensures) c.loop-stream.invariant
+    let n = get_or c.args.streams.now c.loop-stream.stream-index 0 in
+    rest_none c.args.layout.now c.args.terms.now c.args.streams.now c.loop-stream.stream-index n c.loop-stream-test.true (get_or_default c.args.streams.now c.loop-stream.stream-index 0 n c.loop-stream-test.true)
+    (subst (λ b. RootSays c.args.layout.now c.args.terms.now b n) c.if-not-is_root_fit.true c.is_root_fit.ensures) c.loop-stream.invariant
 
 pub loop-stream-preserved : goal.loop-stream-preserved
 loop-stream-preserved c =
-    let none : StreamTerm = record { number = 0; term = 0 } in
-    let s = get_or c.args.streams.now c.loop-stream.stream-index none in
-    rest_more c.args.layout.now c.args.terms.now c.args.streams.now c.loop-stream.stream-index s c.loop-stream-test.true (got_within c.args.streams.now c.loop-stream.stream-index none s c.loop-stream-test.true)
-    (subst (λ b. RootSays c.args.layout.now c.args.terms.now b s.term) c.if-not-is_root_fit.false c.is_root_fit.ensures) c.loop-stream.invariant
+    let n = get_or c.args.streams.now c.loop-stream.stream-index 0 in
+    rest_more c.args.layout.now c.args.terms.now c.args.streams.now c.loop-stream.stream-index n c.loop-stream-test.true (get_or_default c.args.streams.now c.loop-stream.stream-index 0 n c.loop-stream-test.true)
+    (subst (λ b. RootSays c.args.layout.now c.args.terms.now b n) c.if-not-is_root_fit.false c.is_root_fit.ensures) c.loop-stream.invariant
 
 pub returns : goal.returns
 returns c =

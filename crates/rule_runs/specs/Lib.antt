@@ -1,0 +1,10 @@
+pub mod Conditions
+pub mod Laws
+pub mod Making
+pub mod Matching
+pub mod Ready
+pub mod Runs
+pub mod SeenMatches
+pub mod SeenSides
+pub mod Sides
+pub mod Slotting
