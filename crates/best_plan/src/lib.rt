@@ -8,6 +8,7 @@ mod solution;
 mod solving;
 mod table;
 
+pub use costs::cost_at_bounds;
 pub use moves::{Choices, Moves, UnfoldError};
 pub use searching::{FindError, Found, find};
 pub use solution::Solution;

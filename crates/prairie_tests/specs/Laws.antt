@@ -1,16 +1,16 @@
 -- The laws of moves, for such data.
-use Rattle.std.specs.Prelude.{◌≡◌, ℕ, zero, suc, ◌+◌, ◌-◌, ◌*◌, ◌≤◌, ◌<◌, min, max, Bool, true, false, List, [], ◌∷◌, length, map, take, Option, Some, None, slice_get, nat_lt, if◌then◌else◌, refl}
+use Rattle.std.specs.Prelude.{◌≡◌, ℕ, zero, suc, ◌+◌, ◌-◌, ◌≤◌, ◌<◌, min, Bool, true, false, List, [], ◌∷◌, length, map, take, Option, Some, None, slice_get, nat_lt, if◌then◌else◌, refl}
 use Rattle.std.specs.List.{AllZip, AllByRecursion}
-use Rattle.std.proofs.Common.{arith, sym, subst, ap}
+use Rattle.std.proofs.Common.{arith, sym, subst}
 use Rattle.std.proofs.lemmas.Nat.{mul-le}
 use Rattle.pr_value.specs.Capped.{cap}
-use Rattle.best_plan.specs.Moves.{Alternative, Graph, Gives, AllLe, AreChoices, AreMoves, Extends, KeepsAnswers, IsAlternative, IsUnfolded}
-use Rattle.best_plan.proofs.BoundLaws.{either, lt_true}
+use Rattle.best_plan.specs.Moves.{Gives, AllLe, AreChoices, AreMoves, Extends, KeepsAnswers}
+use Rattle.best_plan.proofs.BoundLaws.{lt_true}
 use Rattle.prairie_tests.specs.declared.ways.Kind.{Kind}
 use Rattle.prairie_tests.specs.declared.ways.Kind.TheVariants.{Sum, Least, Product}
 use Rattle.prairie_tests.specs.declared.ways.Way.{Way}
-use Rattle.prairie_tests.specs.Ways.{join, joined, ways_of, input_at, inputs_of, as_alternative}
-use Rattle.prairie_tests.specs.Listed.{is_opened, alternative_of, graph_of, rank_of, reaches_in, reaches_of, IsLater}
+use Rattle.prairie_tests.specs.Ways.{join, joined, ways_of, input_at, as_alternative}
+use Rattle.prairie_tests.specs.Listed.{alternative_of, graph_of, rank_of, reaches_in, reaches_of, IsLater}
 
 join_le : (kind : Kind) (a b c d : ℕ) → a ≤ b → c ≤ d → join kind a c ≤ join kind b d
 join_le Sum a b c d h k = omega (arith, h, k)
@@ -22,13 +22,13 @@ join_capped Sum a c = omega arith
 join_capped Least a c = omega arith
 join_capped Product a c = omega arith
 
-joined_le : (kind : Kind) (a b : ℕ) (xs ys : List ℕ) → a ≤ b → AllLe xs ys → joined kind a xs ≤ joined kind b ys
+pub joined_le : (kind : Kind) (a b : ℕ) (xs ys : List ℕ) → a ≤ b → AllLe xs ys → joined kind a xs ≤ joined kind b ys
 joined_le kind a b [] [] h k = h
 joined_le kind a b [] (y ∷ ys) h k = absurd k
 joined_le kind a b (x ∷ xs) [] h k = absurd k
 joined_le kind a b (x ∷ xs) (y ∷ ys) h k = joined_le kind (join kind a x) (join kind b y) xs ys (join_le kind a b x y h k.0) k.1
 
-joined_capped : (kind : Kind) (a : ℕ) (xs : List ℕ) → a ≤ cap → joined kind a xs ≤ cap
+pub joined_capped : (kind : Kind) (a : ℕ) (xs : List ℕ) → a ≤ cap → joined kind a xs ≤ cap
 joined_capped kind a [] h = h
 joined_capped kind a (x ∷ xs) h = joined_capped kind (join kind a x) xs (join_capped kind a x)
 
@@ -60,7 +60,7 @@ all_map : (P Q : ℕ → Type 0) (is : List ℕ) → ((i : ℕ) → P i → Q i)
 all_map P Q [] f h = tt
 all_map P Q (i ∷ is) f h = (f i h.0, all_map P Q is f h.1)
 
-take_four : (is : List ℕ) (f : ℕ → ℕ) → length (map f (take 4 is)) ≤ 4
+pub take_four : (is : List ℕ) (f : ℕ → ℕ) → length (map f (take 4 is)) ≤ 4
 take_four [] f = omega arith
 take_four (a ∷ []) f = omega arith
 take_four (a ∷ b ∷ []) f = omega arith

@@ -1,5 +1,10 @@
+pub mod Faces
+pub mod FormLaws
+pub mod Forms
 pub mod Fragile
 pub mod Laws
 pub mod Listed
+pub mod Looping
+pub mod LoopingLaws
 pub mod Toy
 pub mod Ways

@@ -1,5 +1,5 @@
 -- Alternatives as data.
-use Rattle.std.specs.Prelude.{◌≡◌, ℕ, ◌+◌, ◌-◌, ◌*◌, min, max, List, [], ◌∷◌, length, map, take, Option, Some, None, slice_get, nat_lt, if◌then◌else◌}
+use Rattle.std.specs.Prelude.{ℕ, ◌+◌, ◌-◌, ◌*◌, min, max, List, [], ◌∷◌, map, take, Option, Some, None, slice_get, nat_lt, if◌then◌else◌}
 use Rattle.pr_value.specs.Capped.{cap}
 use Rattle.best_plan.specs.Moves.{Alternative}
 use Rattle.prairie_tests.specs.declared.ways.Kind.{Kind}

@@ -14,6 +14,14 @@ mod again;
 #[cfg(test)]
 mod base_tests;
 #[cfg(test)]
+mod best;
+#[cfg(test)]
+mod best_all;
+#[cfg(test)]
+mod best_tests;
+#[cfg(test)]
+mod carry_tests;
+#[cfg(test)]
 mod certificate_tests;
 #[cfg(test)]
 mod cost_tests;
@@ -22,11 +30,19 @@ mod derivation_tests;
 #[cfg(test)]
 mod listed;
 #[cfg(test)]
+mod loop_tests;
+#[cfg(test)]
+mod looping;
+#[cfg(test)]
 mod memo_tests;
 #[cfg(test)]
 mod moves_tests;
 #[cfg(test)]
 mod outside_tests;
+#[cfg(test)]
+mod random;
+#[cfg(test)]
+mod rows;
 #[cfg(test)]
 mod search;
 #[cfg(test)]

@@ -2,11 +2,14 @@ ghost use Rattle.std.specs.Prelude.{◌≡◌, ℕ, ◌+◌, ◌-◌, ◌≤◌,
 ghost use Rattle.std.specs.List.{list_any};
 ghost use Rattle.prairie_tests.specs.Ways.{ways_of, input_at, inputs_of};
 ghost use Rattle.prairie_tests.specs.Listed.{graph_of, rank_of, reaches_of, IsLater, is_opened};
+ghost use Rattle.prairie_tests.specs.Forms.{same_kind, same_ways};
+ghost use Rattle.prairie_tests.specs.FormLaws.{same_form_of};
 ghost use Rattle.prairie_tests.specs.Laws.{choices_of, moves_of, grows_of, settled_of, same_of, chain_of};
 
-use crate::ways::{Way, joined};
+use crate::ways::{Kind, Way, joined};
 use best_plan::{Choices, Moves, UnfoldError};
-use pr_value::{Items, Memory};
+use pr_value::{CAP, Items, Memory};
+use replan::Forms;
 use std::alloc::Global;
 use std::cell::Cell;
 
@@ -46,7 +49,7 @@ impl Listed {
         Ok(())
     }
 
-    fn ways_of(&self, goal: u32) -> &[Way]
+    pub fn ways_of(&self, goal: u32) -> &[Way]
         ensures { result.now ≡ ways_of self.now.ways goal }
     {
         match self.ways.get(goal as usize) {
@@ -142,5 +145,39 @@ impl Moves for Listed {
 
     fn rank(&self, goal: u32) -> u32 {
         self.ways.len() as u32 - goal
+    }
+}
+
+pub fn same_kind(a: Kind, b: Kind) -> bool
+    ensures { result ≡ same_kind a b }
+{
+    match (a, b) {
+        (Kind::Sum, Kind::Sum) => true,
+        (Kind::Least, Kind::Least) => true,
+        (Kind::Product, Kind::Product) => true,
+        _ => false,
+    }
+}
+
+impl Forms for Listed {
+    ghost same_form = { λ s g k t h j. same_ways (length s.ways) g (slice_get (ways_of s.ways g) k)
+        (length t.ways) h (slice_get (ways_of t.ways h) j) };
+
+    ghost alike = { λ s t g k h j a b.
+        same_form_of (length s.ways) g (slice_get (ways_of s.ways g) k)
+        (length t.ways) h (slice_get (ways_of t.ways h) j) };
+
+    fn same_form(
+        &self,
+        goal: u32,
+        k: usize,
+        other: &Self,
+        other_goal: u32,
+        other_k: usize,
+    ) -> bool {
+        let a = &self.ways_of(goal)[k];
+        let b = &other.ways_of(other_goal)[other_k];
+        let same = same_kind(a.kind, b.kind) && a.from.min(CAP) == b.from.min(CAP);
+        same && self.input_count(goal, k) == other.input_count(other_goal, other_k)
     }
 }

@@ -1,4 +1,5 @@
 use crate::listed::Listed;
+use crate::rows::{Row, goals_of, ways};
 use crate::search::Search;
 use crate::ways::{Kind, Way};
 use best_plan::{Choices, FindError, Found};
@@ -6,28 +7,8 @@ use pr_value::{CAP, Items};
 use std::alloc::Global;
 use std::process::Abort;
 
-type Row<'a> = (Kind, u64, &'a [u32]);
-
-/// The alternatives of one goal.
-fn ways(rt: &impl Abort, alloc: Global, rows: &[Row]) -> Items<Way> {
-    let mut ways = Items::new(alloc);
-    for (kind, from, inputs) in rows {
-        let way = Way {
-            kind: *kind,
-            from: *from,
-            inputs: Items::from_slice(alloc, inputs).expect(rt, "memory"),
-        };
-        ways.push(way).expect(rt, "memory");
-    }
-    ways
-}
-
 fn search_of(rt: &impl Abort, alloc: Global, rows: &[&[Row]]) -> Search {
-    let mut goals = Items::new(alloc);
-    for row in rows {
-        goals.push(ways(rt, alloc, row)).expect(rt, "memory");
-    }
-    let moves = Listed::new(alloc, goals).expect(rt, "memory");
+    let moves = Listed::new(alloc, goals_of(rt, alloc, rows)).expect(rt, "memory");
     Search::new(alloc, moves)
 }
 

@@ -7,6 +7,7 @@ ghost use Rattle.std.proofs.Props.{props};
 use crate::listed::Listed;
 use best_plan::{Choices, FindError, Found, Table, find, solve};
 use pr_value::CAP;
+use replan::carry;
 use std::alloc::Global;
 
 /// Moves with a table that is right for them.
@@ -45,9 +46,21 @@ impl Search {
             Err(_) => None,
         }
     }
+
+    /// None where there is not a place for each new goal, or no memory.
+    pub fn carried(&self, alloc: Global, new: Listed, places: &[Option<u32>]) -> Option<Search> {
+        if places.len() != new.ways.len() {
+            return None;
+        }
+        match carry(alloc, &self.moves, &self.table, &new, places) {
+            Ok(table) => Some(Search { moves: new, table }),
+            Err(_) => None,
+        }
+    }
 }
 
-fn all_unfolded(moves: &Listed) -> bool
+/// Whether all goals are unfolded.
+pub fn all_unfolded(moves: &Listed) -> bool
     ensures { result ≡ true → IsAllUnfolded (graph_of moves.now.ways moves.now.opened.items) }
 {
     for goal in 0..moves.goals() {

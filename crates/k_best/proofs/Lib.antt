@@ -1,0 +1,15 @@
+pub mod BestLaws
+pub mod ChoiceLaws
+pub mod ChooseLaws
+pub mod IndexLaws
+pub mod InputLaws
+pub mod LeadLaws
+pub mod ListLaws
+pub mod ListedLaws
+pub mod PickLaws
+pub mod PutLaws
+pub mod SameLaws
+pub mod SetLaws
+pub mod ShowingLaws
+pub mod SolutionLaws
+pub mod WalkLaws
