@@ -49,3 +49,5 @@ mod search;
 mod syntax_tests;
 #[cfg(test)]
 mod toy;
+#[cfg(test)]
+mod trial_tests;
