@@ -12,9 +12,9 @@ use Rattle.descriptor_types.specs.Descriptors.{Desc, Mask, fits}
 use Rattle.descriptor_types.specs.Labels.{Label, ask}
 use Rattle.rule_ast.specs.Syntax.{Rules}
 use Rattle.rule_types.specs.Conditions.{refused_by}
-use Rattle.query_tree.specs.Trees.{IsTree, AreTrees}
-use Rattle.query_tree.proofs.GoalLaws.{ask-IsTree}
-use Rattle.query_tree.specs.Views.{physical}
+use Rattle.rule_trees.specs.Trees.{IsTree, AreTrees}
+use Rattle.tree_terms.proofs.GoalLaws.{ask-IsTree}
+use Rattle.rule_trees.specs.Views.{physical}
 use Rattle.plan_form.proofs.PairLaws.{zip-more, zip-all}
 use Rattle.plan_form.specs.Plans.{each_asked}
 

@@ -19,9 +19,9 @@ use Rattle.rule_types.specs.Conditions.{refused_by}
 use Rattle.action_eval.specs.Cost.{IStep, is_over}
 use Rattle.action_eval.specs.SeenForms.{seen_step}
 use Rattle.action_eval.specs.declared.cost_forms.step.IStep as step
-use Rattle.query_tree.specs.Steps.{i_step}
-use Rattle.query_tree.specs.Trees.{AreTrees, IsTree}
-use Rattle.query_tree.specs.Views.{physical}
+use Rattle.rule_trees.specs.Steps.{i_step}
+use Rattle.rule_trees.specs.Trees.{AreTrees, IsTree}
+use Rattle.rule_trees.specs.Views.{physical}
 use Rattle.plan_form.specs.declared.plan.Plan as rust
 use Rattle.plan_form.specs.declared.plan.Plan.TheVariants as variant
 use Rattle.plan_form.proofs.AskedLaws.{each-AreTrees, inputs-AreTrees}

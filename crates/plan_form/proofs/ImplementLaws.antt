@@ -15,8 +15,8 @@ use Rattle.rule_ast.specs.Syntax.{Rules}
 use Rattle.rule_types.specs.Conditions.{refused_by}
 use Rattle.action_eval.proofs.CostLaws.{cost_in_cap}
 use Rattle.action_eval.specs.Cost.{IStep, cost_of}
-use Rattle.query_tree.specs.Steps.{i_step}
-use Rattle.query_tree.specs.Views.{physical}
+use Rattle.rule_trees.specs.Steps.{i_step}
+use Rattle.rule_trees.specs.Views.{physical}
 use Rattle.plan_form.proofs.CostLaws.{set_reads}
 use Rattle.plan_form.proofs.StepLaws.{streams-inputs}
 use Rattle.plan_form.specs.Plans.{Plan, PlanLabel, file, algorithm, AllImplement, Implements, asked_trees, cost, costed, desc_cost, each_asked, matched_streams}

@@ -21,7 +21,7 @@ use Rattle.rule_ast.specs.Typing.{property_kind}
 use Rattle.rule_types.proofs.AcceptedCosts.{accepted-one_cost}
 use Rattle.rule_types.specs.Conditions.{refused_by}
 use Rattle.action_eval.specs.Cost.{IStep, cost_of}
-use Rattle.query_tree.specs.Steps.{i_step}
+use Rattle.rule_trees.specs.Steps.{i_step}
 use Rattle.plan_form.specs.Plans.{Plan, AllImplement, Implements, asked_trees, cost, costed, matched_streams, plan_by}
 
 read_first : (b : Bool) (p : Property) (ps : Layout) (name : Symbol) (w v : Value) (d : Desc) → bytes_eq p.name name ≡ b → (b ≡ false → value_of ps name (with_value ps name w d) ≡ w) → value_of (p ∷ ps) name (with_value (p ∷ ps) name w (v ∷ d)) ≡ w

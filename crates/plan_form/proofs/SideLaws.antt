@@ -15,7 +15,7 @@ use Rattle.rule_runs.specs.Matching.{Matched, matched, all_matched, and_match, i
 use Rattle.rule_runs.specs.Sides.{left_side, left_sides_in, operator_at, place_in}
 use Rattle.rule_types.specs.AcceptedLaws.{is_flat, is_stream}
 use Rattle.rule_types.specs.Conditions.{same_numbers}
-use Rattle.query_tree.specs.Steps.{op_in, tree_roots}
+use Rattle.rule_trees.specs.Steps.{op_in, tree_roots}
 
 -- streams match the trees that they stand for, of which there are as many
 pub record AreStreams (ls : Trees LeftLabel) (ts : List (Tree Label)) (m : Matched (Tree Label)) : Type 0 where

@@ -17,8 +17,8 @@ use Rattle.rule_types.proofs.AcceptedSides.{accepted-sides}
 use Rattle.rule_types.specs.AcceptedLaws.{is_flat, is_sound_irule}
 use Rattle.rule_types.specs.Conditions.{refused_by, same_numbers}
 use Rattle.action_eval.specs.Cost.{IStep}
-use Rattle.query_tree.specs.Steps.{i_step, irule_match}
-use Rattle.query_tree.specs.Views.{physical}
+use Rattle.rule_trees.specs.Steps.{i_step, irule_match}
+use Rattle.rule_trees.specs.Views.{physical}
 use Rattle.rule_runs.specs.Matching.{Matched}
 use Rattle.rule_runs.specs.Runs.{env_over, implemented, irule_run, irule_scope, tested}
 use Rattle.plan_form.proofs.SideLaws.{matched-streams, same_numbers-long, streams-long}

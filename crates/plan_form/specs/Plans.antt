@@ -11,9 +11,9 @@ use Rattle.descriptor_types.specs.Labels as label
 use Rattle.rule_ast.specs.CostForms.{cost_name}
 use Rattle.rule_ast.specs.Syntax.{Rules}
 use Rattle.action_eval.specs.Cost.{IStep, cost_of}
-use Rattle.query_tree.specs.Query.{fields_in, file_desc}
-use Rattle.query_tree.specs.Steps.{i_step, i_streams}
-use Rattle.query_tree.specs.Views.{physical}
+use Rattle.query_build.specs.Query.{fields_in, file_desc}
+use Rattle.rule_trees.specs.Steps.{i_step, i_streams}
+use Rattle.rule_trees.specs.Views.{physical}
 use Rattle.plan_form.specs.declared.plan.Plan as rust
 use Rattle.plan_form.specs.declared.plan.Plan.TheOpen.{Plan-F}
 use Rattle.plan_form.specs.declared.plan.Plan.TheFolds.{fold-Plan}

@@ -9,8 +9,8 @@ ghost use Rattle.plan_form.specs.Plans as spec;
 ghost use Rattle.plan_form.specs.Plans.{AllImplement, Implements, SamePhysical, seen_plan};
 ghost use Rattle.pr_value.specs.Trees.{tree, trees_of};
 ghost use Rattle.property_classes.specs.Classes.{classes_of};
-ghost use Rattle.query_tree.specs.Steps as steps;
-ghost use Rattle.query_tree.specs.Trees.{AreTrees, IsTree};
+ghost use Rattle.rule_trees.specs.Steps as steps;
+ghost use Rattle.rule_trees.specs.Trees.{AreTrees, IsTree};
 ghost use Rattle.rule_ast.specs.SeenRules.{seen_rules};
 
 use crate::costing::{costs_of, set_cost};

@@ -12,9 +12,9 @@ use Rattle.pr_value.specs.Trees.{Tree, node, nil, cons, height, highest, tree, t
 use Rattle.rule_ast.specs.Spelled.{spells}
 use Rattle.rule_ast.specs.Syntax.{Rules}
 use Rattle.rule_types.specs.Conditions.{refused_by}
-use Rattle.query_tree.specs.Steps.{i_step}
-use Rattle.query_tree.specs.Trees.{IsTree}
-use Rattle.query_tree.specs.Views.{physical}
+use Rattle.rule_trees.specs.Steps.{i_step}
+use Rattle.rule_trees.specs.Trees.{IsTree}
+use Rattle.rule_trees.specs.Views.{physical}
 use Rattle.plan_form.proofs.StepLaws.{streams-inputs}
 use Rattle.plan_form.specs.Plans.{Plan, file, IsAnswer, asked_trees, cost, each_asked, listed_desc, matched_streams, plan_by}
 use Rattle.plan_search.proofs.FileLaws.{file-none, file-some, inputs-none, operator-none}

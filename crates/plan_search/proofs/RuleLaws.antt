@@ -17,7 +17,7 @@ use Rattle.pr_value.specs.declared.value.Value.{Value}
 use Rattle.pr_value.specs.declared.value.Value.TheVariants as value
 use Rattle.rule_ast.specs.CostForms.{cost_name}
 use Rattle.rule_ast.specs.Syntax.{Rules}
-use Rattle.query_tree.specs.Steps.{i_step}
+use Rattle.rule_trees.specs.Steps.{i_step}
 use Rattle.plan_form.proofs.PlanByLaws.{plan_by-implements}
 use Rattle.plan_form.specs.Plans.{Plan, PlanLabel, file, algorithm, AllImplement, Best, Implements, NoPlan, asked_trees, cost, costed, desc_cost, matched_streams, plan_by}
 use Rattle.plan_search.specs.Search.{AllBest, AreBest, IsBestBy, IsBy}

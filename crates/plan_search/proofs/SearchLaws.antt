@@ -15,8 +15,8 @@ use Rattle.pr_value.specs.Trees.{Tree, height, highest, inputs, trees_of}
 use Rattle.rule_ast.specs.Spelled.{spells}
 use Rattle.rule_ast.specs.Syntax.{Rules}
 use Rattle.rule_types.specs.Conditions.{refused_by}
-use Rattle.query_tree.specs.Steps.{i_step}
-use Rattle.query_tree.specs.Views.{physical}
+use Rattle.rule_trees.specs.Steps.{i_step}
+use Rattle.rule_trees.specs.Views.{physical}
 use Rattle.plan_form.proofs.ImplementLaws.{costs-capped}
 use Rattle.plan_form.proofs.StepLaws.{asked-long, streams-inputs}
 use Rattle.plan_form.specs.Plans.{Plan, Best, asked_trees, cost, each_asked, matched_streams, plan_by, seen_plan}

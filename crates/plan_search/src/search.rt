@@ -8,8 +8,8 @@ ghost use Rattle.plan_search.specs.Search as spec;
 ghost use Rattle.plan_search.specs.Search.{AreBest, IsBestBelow, IsBestBy};
 ghost use Rattle.pr_value.specs.Trees.{inputs, trees_of};
 ghost use Rattle.property_classes.specs.Classes.{classes_of};
-ghost use Rattle.query_tree.specs.Trees.{AreTrees, IsTree};
-ghost use Rattle.query_tree.specs.Views.{physical};
+ghost use Rattle.rule_trees.specs.Trees.{AreTrees, IsTree};
+ghost use Rattle.rule_trees.specs.Views.{physical};
 ghost use Rattle.rule_ast.specs.SeenRules.{seen_rules};
 
 use crate::found::{Found, copy_answer, keep, known};

@@ -83,6 +83,11 @@ fn goals_are_kept_that_did_not_change(rt: HostRuntime) {
     if let Some(search) = &mut changed {
         assert!(rt; search.find(0, CAP + 1) == Some(Ok(Found::Below(11))));
     }
+}
+
+#[test]
+fn goals_are_kept_by_their_places(rt: HostRuntime) {
+    let alloc = rt.alloc();
     // One place is given twice, and one is none.
     let twice: [&[Row]; 4] = [
         &[(Kind::Sum, 1, &[3])],

@@ -14,16 +14,18 @@ use Rattle.descriptor_types.specs.Labels.{Label}
 use Rattle.pr_value.proofs.TreeLaws.{trees_of_list_of}
 use Rattle.pr_value.specs.Symbols.{Symbol}
 use Rattle.pr_value.specs.Trees.{Tree, node, Trees, nil, cons, list_of, trees_of}
-use Rattle.query_tree.proofs.BuildLaws.{file-tree, fits-scope, initial-fits, initial-free, named_nothing, stands-right, typed-init, zip-scope}
-use Rattle.query_tree.proofs.FaultLaws.{faultless}
+use Rattle.query_build.proofs.BuildLaws.{file-tree, fits-scope, initial-fits, initial-free, named_nothing, stands-right, typed-init, zip-scope}
+use Rattle.query_build.proofs.FaultLaws.{faultless}
 use Rattle.rule_runs.proofs.ScopeLaws.{sound_over}
-use Rattle.query_tree.proofs.SoundLaws.{file-sound, plain-sound, settings-sound}
-use Rattle.query_tree.specs.Faultless.{AreFaultless, IsFaultless}
-use Rattle.query_tree.specs.Query.{fields_in, file_desc, initial_desc, operator_named, operator_scope, query_tree, query_trees, with_settings}
-use Rattle.query_tree.specs.Refusals.{first_setting, is_wrong_file, is_wrong_setting, refusal_of}
+use Rattle.query_build.proofs.SoundLaws.{file-sound, settings-sound}
+use Rattle.rule_trees.proofs.PlainLaws.{plain-sound}
+use Rattle.query_build.specs.Faultless.{AreFaultless, IsFaultless}
+use Rattle.query_build.specs.Query.{fields_in, file_desc, initial_desc, operator_scope, query_tree, query_trees, with_settings}
+use Rattle.rule_trees.specs.Arities.{operator_named}
+use Rattle.query_build.specs.Refusals.{first_setting, is_wrong_file, is_wrong_setting, refusal_of}
 use Rattle.rule_runs.specs.Runs.{env_over}
-use Rattle.query_tree.specs.Trees.{AreTrees, IsDesc, IsTree}
-use Rattle.query_tree.specs.Views.{view_in}
+use Rattle.rule_trees.specs.Trees.{AreTrees, IsDesc, IsTree}
+use Rattle.rule_trees.specs.Views.{view_in}
 use Rattle.rule_ast.specs.Descs.{operator_descs}
 use Rattle.rule_ast.specs.Syntax.{Operator, Query, QueryLabel, Rules, Stmt, set, copy}
 use Rattle.rule_ast.specs.Typing.{Context, is_typed_stmt, signatures_of}

@@ -3,7 +3,7 @@ use Rattle.std.proofs.Common.{◌≡◌, Option, Some, None, refl}
 use Rattle.plan_form.specs.Plans.{Plan, IsAnswer, cost}
 use Rattle.plan_search.proofs.ExistsLaws.{answer_exists, one_answer}
 use Rattle.plan_form.specs.PlanText.{plan_text}
-use Rattle.query_tree.specs.Query.{query_tree}
+use Rattle.query_build.specs.Query.{query_tree}
 use Rattle.prairie_top.specs.Outcome.{Outcome, planned, unplanned, IsOutcome, outcome_status}
 use Rattle.prairie_top.specs.Laws.{OneCost, OneExists}
 use Rattle.prairie_top.proofs.BuiltLaws.{built-tree}

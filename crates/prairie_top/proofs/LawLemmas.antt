@@ -18,7 +18,7 @@ use Rattle.prairie_top.specs.declared.stage.Refusal.{Refusal}
 use Rattle.prairie_top.specs.declared.stage.Refusal.TheVariants.{TooLong, BadByte, NumberTooBig, NameTooLong, BadSyntax, TooDeep, NotJson, BadShape, NotAccepted, TooManyNodes, UnknownOperator, UnknownFile, Arity, UnknownProperty, WrongType, Unbuilt}
 use Rattle.prairie_top.specs.declared.status.Status.{Status}
 use Rattle.prairie_top.specs.declared.status.Status.TheVariants as status
-use Rattle.query_tree.specs.Refusals.{refusal_of}
+use Rattle.query_build.specs.Refusals.{refusal_of}
 use Rattle.prairie_top.specs.Messages.{no_plan_text, usage_text, memory_text}
 use Rattle.prairie_top.specs.Reading.{HasTokens, HasNoTokens, Grammar, Reads, IsRefusedText, no_tokens, unread, refused, IsRefusedRules, IsRefusedQuery, rules_grammar, query_grammar, ReadsCatalog, IsRefusedCatalog}
 use Rattle.prairie_top.specs.Run.{Fetches, Puts}

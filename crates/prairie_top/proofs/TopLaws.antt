@@ -3,7 +3,7 @@ use Rattle.std.proofs.Common.{ℕ, List, refl}
 use Rattle.std.specs.Prelude.{Result, Ok, Err, IfOk}
 use Rattle.catalog.specs.Contents.{Catalog}
 use Rattle.rule_ast.specs.Syntax.{Rules, Query}
-use Rattle.query_tree.specs.Query.{query_tree}
+use Rattle.query_build.specs.Query.{query_tree}
 use Rattle.prairie_top.specs.declared.status.Status.{Status}
 use Rattle.prairie_top.specs.declared.status.Status.TheVariants as status
 use Rattle.prairie_top.specs.Run.{Fetches}

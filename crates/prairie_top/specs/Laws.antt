@@ -9,7 +9,7 @@ use Rattle.rule_ast.specs.Spelled.{spells}
 use Rattle.rule_syntax.specs.Tokens.{tokens_of}
 use Rattle.rule_types.specs.Conditions.{refused_by}
 use Rattle.plan_form.specs.Plans.{Plan, cost}
-use Rattle.query_tree.specs.Refusals.{refusal_of}
+use Rattle.query_build.specs.Refusals.{refusal_of}
 use Rattle.prairie_top.specs.declared.status.Status.{Status}
 use Rattle.prairie_top.specs.declared.status.Status.TheVariants as status
 use Rattle.prairie_top.specs.Reading.{HasTokens, Reads, rules_grammar, query_grammar, ReadsCatalog}

@@ -5,7 +5,7 @@ use Rattle.pr_outside.specs.Written.{Appends, AppendsPrefix}
 use Rattle.catalog.specs.Contents.{Catalog}
 use Rattle.plan_form.specs.Plans.{Plan, Best, NoPlan}
 use Rattle.plan_form.specs.PlanText.{plan_text}
-use Rattle.query_tree.specs.Query.{query_tree}
+use Rattle.query_build.specs.Query.{query_tree}
 use Rattle.rule_ast.specs.Syntax.{Rules, Query}
 use Rattle.prairie_words.specs.Commands.{Word, Names}
 use Rattle.prairie_words.specs.Meaning.{Means}

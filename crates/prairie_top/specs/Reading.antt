@@ -10,8 +10,8 @@ use Rattle.rule_ast.specs.Syntax.{Rules, Query}
 use Rattle.rule_syntax.specs.Tokens.{Text}
 use Rattle.rule_syntax.specs.Places.{IsPlace}
 use Rattle.rule_syntax.specs.Levels.{IsRules, IsQuery}
-use Rattle.query_tree.specs.Refusals.{refusal_of}
-use Rattle.query_tree.specs.declared.refusal.QueryRefusal.TheVariants as told
+use Rattle.query_build.specs.Refusals.{refusal_of}
+use Rattle.query_build.specs.declared.refusal.QueryRefusal.TheVariants as told
 use Rattle.prairie_top.specs.declared.stage.Refusal.{Refusal}
 use Rattle.prairie_top.specs.declared.stage.Refusal.TheVariants.{BadByte, NumberTooBig, NameTooLong, BadSyntax, TooDeep, NotJson, BadShape, NotAccepted, TooManyNodes, UnknownOperator, UnknownFile, Arity, UnknownProperty, WrongType, Unbuilt}
 use Rattle.rule_types.specs.Conditions.{refused_by}

@@ -10,8 +10,8 @@ use Rattle.plan_form.specs.Plans.{Plan, Best, NoPlan}
 use Rattle.plan_form.specs.PlanText.{plan_text}
 use Rattle.pr_value.specs.Placed.{Placed, tokens_in}
 use Rattle.pr_value.specs.Trees.{Tree}
-use Rattle.query_tree.specs.Query.{query_tree}
-use Rattle.query_tree.specs.Trees.{IsTree}
+use Rattle.query_build.specs.Query.{query_tree}
+use Rattle.rule_trees.specs.Trees.{IsTree}
 use Rattle.rule_lex.specs.Lexes.{Lexes}
 use Rattle.rule_ast.specs.Syntax.{Rules, Query}
 use Rattle.prairie_top.specs.Run.{Fetches, Told}
@@ -23,8 +23,8 @@ use Rattle.prairie_top.specs.declared.stage.Stop.{Stop}
 use Rattle.prairie_top.specs.declared.stage.Stop.TheVariants as stop
 use Rattle.prairie_top.specs.declared.stage.TextError.{TextError}
 use Rattle.prairie_top.specs.declared.stage.TextError.TheVariants as text_error
-use Rattle.query_tree.specs.declared.refusal.QueryRefusal.{QueryRefusal}
-use Rattle.query_tree.specs.declared.refusal.QueryRefusal.TheVariants as told
+use Rattle.query_build.specs.declared.refusal.QueryRefusal.{QueryRefusal}
+use Rattle.query_build.specs.declared.refusal.QueryRefusal.TheVariants as told
 use Rattle.rule_types.specs.declared.acceptance.AcceptError.{AcceptError}
 use Rattle.rule_types.specs.declared.acceptance.AcceptError.TheVariants as accept_error
 use Rattle.prairie_top.specs.declared.status.Status.{Status}

@@ -4,7 +4,7 @@ ghost use Rattle.prairie_top.specs.Outcome.{PlanComes, RulesComes, CatalogComes,
 ghost use Rattle.prairie_top.specs.Tasks.{seen_task};
 ghost use Rattle.descriptor_types.specs.Labels.{seen_tree};
 ghost use Rattle.property_classes.specs.Classes.{classes_of};
-ghost use Rattle.query_tree.specs.Trees.{IsTree};
+ghost use Rattle.rule_trees.specs.Trees.{IsTree};
 ghost use Rattle.rule_ast.specs.SeenRules.{seen_rules};
 ghost use Rattle.prairie_words.specs.Seen.{seen_names};
 ghost use Rattle.prairie_top.specs.Stages.{IsDecided, IsStopped};

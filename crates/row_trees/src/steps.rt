@@ -2,7 +2,7 @@
 ghost use Rattle.std.specs.Prelude.{◌≡◌, ◌<◌, length, IfOk};
 ghost use Rattle.descriptor_types.specs.Labels.{seen_tree};
 ghost use Rattle.property_classes.specs.Classes.{classes_of};
-ghost use Rattle.query_tree.specs.Trees.{IsTree};
+ghost use Rattle.rule_trees.specs.Trees.{IsTree};
 ghost use Rattle.rule_ast.specs.SeenRules.{seen_rules};
 
 use crate::equal::{push_merged, stepped_term};

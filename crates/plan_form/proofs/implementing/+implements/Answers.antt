@@ -8,8 +8,8 @@ use Rattle.descriptor_types.specs.Descriptors.{fits}
 use Rattle.descriptor_types.specs.Labels.{seen_tree}
 use Rattle.pr_value.specs.Capped.{cap}
 use Rattle.pr_value.specs.Trees.{inputs, trees_of}
-use Rattle.query_tree.specs.Steps.{i_step}
-use Rattle.query_tree.specs.Views.{physical}
+use Rattle.rule_trees.specs.Steps.{i_step}
+use Rattle.rule_trees.specs.Views.{physical}
 use Rattle.rule_ast.specs.SeenRules.{seen_rules}
 use Rattle.plan_form.specs.declared.plan.Plan.{the_lemmas}
 use Rattle.plan_form.specs.Plans.{AllImplement, cost, costed, each_asked, seen_plan}

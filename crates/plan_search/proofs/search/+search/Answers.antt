@@ -10,8 +10,8 @@ use Rattle.plan_form.proofs.AskedLaws.{each-AreTrees, inputs-AreTrees, trees-at}
 use Rattle.plan_form.specs.Plans.{Plan, IsAnswer, each_asked, seen_plan}
 use Rattle.plan_form.specs.declared.plan.Plan as plan
 use Rattle.pr_value.specs.Trees.{Tree, height, highest, inputs, trees_of}
-use Rattle.query_tree.specs.Trees.{AreTrees}
-use Rattle.query_tree.specs.Views.{physical}
+use Rattle.rule_trees.specs.Trees.{AreTrees}
+use Rattle.rule_trees.specs.Views.{physical}
 use Rattle.rule_ast.specs.Seen.{seen_irule}
 use Rattle.rule_ast.specs.SeenRules.{seen_rules}
 use Rattle.plan_search.proofs.HeightLaws.{asked-lower}

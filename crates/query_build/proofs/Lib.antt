@@ -1,0 +1,5 @@
+pub mod BuildLaws
+pub mod DescLaws
+pub mod FaultLaws
+pub mod PartLaws
+pub mod SoundLaws

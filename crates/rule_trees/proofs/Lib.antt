@@ -1,0 +1,13 @@
+pub mod AcceptedFacts
+pub mod AskedMatches
+pub mod CostLaws
+pub mod FoundLaws
+pub mod MadeLaws
+pub mod NumberLaws
+pub mod OperatorLaws
+pub mod PlaceLaws
+pub mod PlainLaws
+pub mod RootedLaws
+pub mod RunLaws
+pub mod StepLaws
+pub mod StreamLaws

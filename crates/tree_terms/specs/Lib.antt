@@ -1,0 +1,13 @@
+pub mod Dressed
+pub mod DressedLaws
+pub mod Equality
+pub mod EqualityLaws
+pub mod GoalLaws
+pub mod Goals
+pub mod TermFits
+pub mod TermRoots
+pub mod TermSteps
+pub mod TermsAdded
+pub mod TermsMade
+pub mod TreeLabelLaws
+pub mod TreeLabels
